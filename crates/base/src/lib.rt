@@ -1,0 +1,22 @@
+// What every layer shares: one byte widened, one byte stored.
+ghost use mathlib.Core.Path.{_≡_};
+ghost use mathlib.Core.List.{[], _∷_};
+ghost use Prim.Native.Nat.{_<_};
+ghost use lib.ListN.{length};
+ghost use Rattle.base.specs.Wrote.{Wrote};
+
+// A byte as a number. A read through it asks only for the index, where a cast would ask for the byte's range too.
+pub fn wide(b: u8) -> u64
+    ensures { λ r. ⌜ (r ≡ b) × (r < 256) ⌝ }
+{
+    b as u64
+}
+
+// Puts one byte at a position, and gives the position after it.
+pub fn put_byte(out: &mut [u8], at: usize, b: u8) -> usize
+    requires { ⌜ at < length (now out) ⌝ }
+    ensures { λ r. ⌜ Wrote (now (out .entry)) (now (out .exit)) at r (b ∷ []) ⌝ }
+{
+    out[at] = b;
+    at + 1
+}
