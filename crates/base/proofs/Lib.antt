@@ -1,3 +1,4 @@
 pub mod Lists
 pub mod Numbers
 pub mod Tables
+pub mod Tests
