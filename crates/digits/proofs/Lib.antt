@@ -1,0 +1,4 @@
+pub mod House
+pub mod Readers
+pub mod Strings
+pub mod Theorems

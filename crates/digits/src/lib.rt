@@ -1,0 +1,168 @@
+// Numbers as digit strings: read from bytes, and written as the house spells them.
+use base::wide;
+ghost use mathlib.Core.Path.{_≡_};
+ghost use Prim.Native.Nat.{_+_, _≤_, _<_};
+ghost use lib.ListN.{length};
+ghost use Rattle.base.specs.Wrote.{Wrote};
+ghost use Rattle.digits.specs.Answer.{Answers, DigitOr255, ReadDecimal, ReadPadded, ReadHex};
+ghost use Rattle.digits.specs.House.{glyphOf, paddedText, hexText, decimalText};
+
+pub enum Number {
+    Value(u64),
+    Not,
+}
+
+// The case of the letters for the hexadecimal digits from ten on.
+pub enum Letters {
+    Capital,
+    Small,
+}
+
+// The hexadecimal digit that a byte is, or 255.
+pub fn hex_digit(b: u8) -> u8
+    ensures { λ r. ⌜ DigitOr255 b r ⌝ }
+{
+    if b < 48 {
+        return 255;
+    }
+    if b < 58 {
+        return b - 48;
+    }
+    if b < 65 {
+        return 255;
+    }
+    if b < 71 {
+        return b - 55;
+    }
+    if b < 97 {
+        return 255;
+    }
+    if b < 103 {
+        return b - 87;
+    }
+    255
+}
+
+// The number that decimal digits spell, zeros kept.
+pub fn read_padded(s: &[u8]) -> Number
+    ensures { λ r. ⌜ Answers (ReadPadded (now (s .entry))) r ⌝ }
+{
+    if 19 < s.len() {
+        return Number::Not;
+    }
+    let mut n: u64 = 0;
+    let mut i = 0;
+    while i < s.len() {
+        let b = s[i];
+        if b < 48 {
+            return Number::Not;
+        }
+        if 57 < b {
+            return Number::Not;
+        }
+        n = n * 10 + wide(b - 48);
+        i += 1;
+    }
+    Number::Value(n)
+}
+
+// The number that decimal digits without leading zeros spell.
+pub fn read_decimal(s: &[u8]) -> Number
+    ensures { λ r. ⌜ Answers (ReadDecimal (now (s .entry))) r ⌝ }
+{
+    if s.len() == 0 {
+        return Number::Not;
+    }
+    if s[0] == 48 {
+        if 1 < s.len() {
+            return Number::Not;
+        }
+    }
+    read_padded(s)
+}
+
+// The number that hexadecimal digits of either letter case spell, zeros kept.
+pub fn read_hex(s: &[u8]) -> Number
+    ensures { λ r. ⌜ Answers (ReadHex (now (s .entry))) r ⌝ }
+{
+    if 16 < s.len() {
+        return Number::Not;
+    }
+    let mut n: u64 = 0;
+    let mut i = 0;
+    while i < s.len() {
+        let d = hex_digit(s[i]);
+        if 16 <= d {
+            return Number::Not;
+        }
+        n = n * 16 + wide(d);
+        i += 1;
+    }
+    Number::Value(n)
+}
+
+// How many digits n has in decimal.
+pub fn decimal_length(n: u64) -> usize
+    ensures { λ r. ⌜ r ≡ length (decimalText n) ⌝ }
+{
+    if n < 10 {
+        return 1;
+    }
+    decimal_length(n / 10) + 1
+}
+
+// Puts n in decimal at a position, and gives the position after it. The writer calls itself on n over ten, then puts the last digit.
+pub fn put_decimal(out: &mut [u8], at: usize, n: u64) -> usize
+    requires { ⌜ at + length (decimalText n) ≤ length (now out) ⌝ }
+    ensures { λ r. ⌜ Wrote (now (out .entry)) (now (out .exit)) at r (decimalText n) ⌝ }
+{
+    if n < 10 {
+        out[at] = 48 + n as u8;
+        return at + 1;
+    }
+    let p = put_decimal(out, at, n / 10);
+    out[p] = 48 + (n % 10) as u8;
+    p + 1
+}
+
+// Puts the last w decimal digits of n at a position, zeros kept, and gives the position after them.
+pub fn put_padded(out: &mut [u8], at: usize, w: usize, n: u64) -> usize
+    requires { ⌜ at + w ≤ length (now out) ⌝ }
+    ensures { λ r. ⌜ Wrote (now (out .entry)) (now (out .exit)) at r (paddedText w n) ⌝ }
+    ensures { λ r. ⌜ r ≡ at + w ⌝ }
+{
+    if w == 0 {
+        return at;
+    }
+    let p = put_padded(out, at, w - 1, n / 10);
+    out[p] = 48 + (n % 10) as u8;
+    p + 1
+}
+
+// The byte of a hexadecimal digit.
+fn glyph(letters: Letters, d: u8) -> u8
+    requires { ⌜ d < 16 ⌝ }
+    ensures { λ r. ⌜ r ≡ glyphOf letters d ⌝ }
+{
+    if d < 10 {
+        return 48 + d;
+    }
+    match letters {
+        Letters::Capital => 65 + (d - 10),
+        Letters::Small => 97 + (d - 10),
+    }
+}
+
+// Puts the last w hexadecimal digits of n at a position, zeros kept, and gives the position after them.
+pub fn put_hex(out: &mut [u8], at: usize, w: usize, n: u64, letters: Letters) -> usize
+    requires { ⌜ at + w ≤ length (now out) ⌝ }
+    ensures { λ r. ⌜ Wrote (now (out .entry)) (now (out .exit)) at r (hexText letters w n) ⌝ }
+    ensures { λ r. ⌜ r ≡ at + w ⌝ }
+{
+    if w == 0 {
+        return at;
+    }
+    let p = put_hex(out, at, w - 1, n / 16, letters);
+    out[p] = glyph(letters, (n % 16) as u8);
+    p + 1
+}
