@@ -1,0 +1,5 @@
+pub mod Shift
+pub mod Bytes
+pub mod Words
+pub mod OneRecord
+pub mod Promises

@@ -1,0 +1,146 @@
+-- What the promises of `pack` and `unpack` leave room for, and what each of their answers says.
+use Prim.Native.Nat.{ℕ, _+_, _≤_, _<_}
+use mathlib.Core.Path.{_≡_, refl, ap, sym, _∙_}
+use mathlib.Core.Logic.{_≢_}
+use mathlib.Core.List.{List, _∷_, _++_}
+use native.Mathlib.Nat.{zero-add}
+use native.Mathlib.Omega.{arith}
+use lib.ListN.{length, getD, take, drop}
+use lib.Seq.{sets, sets-eq, take-at}
+use Rattle.record.specs.declared.Record.{Record}
+use Rattle.record.specs.declared.Packed.{Packed}
+use Rattle.record.specs.declared.Packed.the-variants as packed
+use Rattle.record.specs.declared.Unpacked.{Unpacked}
+use Rattle.record.specs.declared.Unpacked.the-variants as unpacked
+use Rattle.record.specs.Bytes.{bytes}
+use Rattle.record.specs.Record.{WellFormed, Packs, number}
+use Rattle.record.specs.Promise.{packNumbers, fieldsOf, unpackNumbers, PackPromise, UnpackPromise}
+use Rattle.record.proofs.OneRecord.{packs, packed-length, one-record, same-bytes}
+
+-- The answer of `pack` and its output are the only ones.
+pub one-pack : {r : Record} {l a b x y : List ℕ} → PackPromise r l a x → PackPromise r l b y → (a ≡ b) × (x ≡ y)
+one-pack {l = l} (PackPromise.done p h e f) (PackPromise.done q k g i) =
+    (e ∙ sym g, f ∙ ap (λ (s : List ℕ). s ++ drop 20 l) (same-bytes p q) ∙ sym i)
+one-pack (PackPromise.done p h e f) (PackPromise.malformed n g i) = absurd (n (p .formed))
+one-pack (PackPromise.done p h e f) (PackPromise.short w k g i) = absurd (omega arith)
+one-pack (PackPromise.malformed n e f) (PackPromise.done q k g i) = absurd (n (q .formed))
+one-pack (PackPromise.malformed n e f) (PackPromise.malformed m g i) = (e ∙ sym g, f ∙ sym i)
+one-pack (PackPromise.malformed n e f) (PackPromise.short w k g i) = absurd (n w)
+one-pack (PackPromise.short w h e f) (PackPromise.done q k g i) = absurd (omega arith)
+one-pack (PackPromise.short w h e f) (PackPromise.malformed m g i) = absurd (m w)
+one-pack (PackPromise.short w h e f) (PackPromise.short v k g i) = (e ∙ sym g, f ∙ sym i)
+
+-- The answer of `unpack` is the only one.
+pub one-unpack : {s a b : List ℕ} → UnpackPromise s a → UnpackPromise s b → a ≡ b
+one-unpack (UnpackPromise.fields p e) (UnpackPromise.fields q f) =
+    e ∙ ap (λ (r : Record). 0 ∷ 0 ∷ fieldsOf r) (one-record p q) ∙ sym f
+one-unpack (UnpackPromise.fields p e) (UnpackPromise.not-twenty n f) = absurd (n (packed-length p))
+one-unpack (UnpackPromise.fields {r} p e) (UnpackPromise.malformed k n f) = absurd (n r p)
+one-unpack (UnpackPromise.not-twenty n e) (UnpackPromise.fields q f) = absurd (n (packed-length q))
+one-unpack (UnpackPromise.not-twenty n e) (UnpackPromise.not-twenty m f) = e ∙ sym f
+one-unpack (UnpackPromise.not-twenty n e) (UnpackPromise.malformed k m f) = absurd (n k)
+one-unpack (UnpackPromise.malformed k n e) (UnpackPromise.fields {r} q f) = absurd (n r q)
+one-unpack (UnpackPromise.malformed k n e) (UnpackPromise.not-twenty m f) = absurd (m k)
+one-unpack (UnpackPromise.malformed k n e) (UnpackPromise.malformed j m f) = e ∙ sym f
+
+-- Answers with another number are other answers.
+other : {A : Type 0} {m n : ℕ} {s t : List ℕ} → m ∷ s ≡ n ∷ t → m ≢ n → A
+other e h = absurd (h (ap (λ (l : List ℕ). getD l 0 0) e))
+
+pub same-fields : (r t : Record) → fieldsOf r ≡ fieldsOf t → r ≡ t
+same-fields r t e =
+    let a : r .offset ≡ t .offset = cc in
+    let b : r .bus ≡ t .bus = cc in
+    let c : r .kind ≡ t .kind = cc in
+    let d : r .extended ≡ t .extended = cc in
+    let f : r .id ≡ t .id = cc in
+    let g : r .len ≡ t .len = cc in
+    let h : r .«data» ≡ t .«data» = cc in
+    λ i. record { offset = a i; bus = b i; kind = c i; extended = d i; id = f i; len = g i; «data» = h i }
+
+fields-tail : {s t : List ℕ} → 0 ∷ 0 ∷ s ≡ 0 ∷ 0 ∷ t → s ≡ t
+fields-tail e = cc
+
+-- The numbers tell the answer of `pack`.
+pub same-packed : (a b : Packed) → packNumbers a ≡ packNumbers b → a ≡ b
+same-packed packed.Done packed.Done e = refl
+same-packed packed.Done packed.Malformed e = other e (omega arith)
+same-packed packed.Done packed.Short e = other e (omega arith)
+same-packed packed.Malformed packed.Done e = other e (omega arith)
+same-packed packed.Malformed packed.Malformed e = refl
+same-packed packed.Malformed packed.Short e = other e (omega arith)
+same-packed packed.Short packed.Done e = other e (omega arith)
+same-packed packed.Short packed.Malformed e = other e (omega arith)
+same-packed packed.Short packed.Short e = refl
+
+-- The numbers tell the answer of `unpack`.
+pub same-unpacked : (a b : Unpacked) → unpackNumbers a ≡ unpackNumbers b → a ≡ b
+same-unpacked (unpacked.Fields r) (unpacked.Fields t) e = ap unpacked.Fields (same-fields r t (fields-tail e))
+same-unpacked (unpacked.Fields r) unpacked.NotTwenty e = other e (omega arith)
+same-unpacked (unpacked.Fields r) unpacked.Malformed e = other e (omega arith)
+same-unpacked unpacked.NotTwenty (unpacked.Fields t) e = other e (omega arith)
+same-unpacked unpacked.NotTwenty unpacked.NotTwenty e = refl
+same-unpacked unpacked.NotTwenty unpacked.Malformed e = other e (omega arith)
+same-unpacked unpacked.Malformed (unpacked.Fields t) e = other e (omega arith)
+same-unpacked unpacked.Malformed unpacked.NotTwenty e = other e (omega arith)
+same-unpacked unpacked.Malformed unpacked.Malformed e = refl
+
+-- What each answer of `unpack` says.
+pub unpacked-fields : {s : List ℕ} (r : Record) → UnpackPromise s (unpackNumbers (unpacked.Fields r)) → Packs r s
+unpacked-fields {s} r (UnpackPromise.fields {r = t} p e) = rw (same-fields r t (fields-tail e)) p
+unpacked-fields r (UnpackPromise.not-twenty n e) = other e (omega arith)
+unpacked-fields r (UnpackPromise.malformed k n e) = other e (omega arith)
+
+pub unpacked-not-twenty : {s : List ℕ} → UnpackPromise s (unpackNumbers unpacked.NotTwenty) → length s ≢ 20
+unpacked-not-twenty (UnpackPromise.fields p e) = other e (omega arith)
+unpacked-not-twenty (UnpackPromise.not-twenty n e) = n
+unpacked-not-twenty (UnpackPromise.malformed k n e) = other e (omega arith)
+
+pub unpacked-malformed : {s : List ℕ} → UnpackPromise s (unpackNumbers unpacked.Malformed)
+    → (length s ≡ 20) × ((r : Record) → Packs r s → ⊥)
+unpacked-malformed (UnpackPromise.fields p e) = other e (omega arith)
+unpacked-malformed (UnpackPromise.not-twenty n e) = other e (omega arith)
+unpacked-malformed (UnpackPromise.malformed k n e) = (k, n)
+
+-- What each answer of `pack` says.
+pub packed-done : {r : Record} {l x : List ℕ} → PackPromise r l (packNumbers packed.Done) x
+    → WellFormed r × (20 ≤ length l) × (x ≡ bytes 20 (number r) ++ drop 20 l)
+packed-done {r} {l} (PackPromise.done p h e f) = (p .formed, h, f ∙ ap (λ (s : List ℕ). s ++ drop 20 l) (p .packed))
+packed-done (PackPromise.malformed n e f) = other e (omega arith)
+packed-done (PackPromise.short w h e f) = other e (omega arith)
+
+pub packed-malformed : {r : Record} {l x : List ℕ} → PackPromise r l (packNumbers packed.Malformed) x
+    → (WellFormed r → ⊥) × (x ≡ l)
+packed-malformed (PackPromise.done p h e f) = other e (omega arith)
+packed-malformed (PackPromise.malformed n e f) = (n, f)
+packed-malformed (PackPromise.short w h e f) = other e (omega arith)
+
+pub packed-short : {r : Record} {l x : List ℕ} → PackPromise r l (packNumbers packed.Short) x
+    → WellFormed r × (length l < 20) × (x ≡ l)
+packed-short (PackPromise.done p h e f) = other e (omega arith)
+packed-short (PackPromise.malformed n e f) = other e (omega arith)
+packed-short (PackPromise.short w h e f) = (w, h, f)
+
+-- Unpacking what was packed gives the fields that were handed in.
+pub there-and-back : {r : Record} {l x a : List ℕ} → PackPromise r l (packNumbers packed.Done) x
+    → UnpackPromise (take 20 x) a → a ≡ unpackNumbers (unpacked.Fields r)
+there-and-back {r} {l} {x} p q =
+    let d = packed-done p in
+    let k = packs (d .0) in
+    let e : take 20 x ≡ bytes 20 (number r) =
+    ap (take 20) (d .2) ∙ take-at (bytes 20 (number r)) (drop 20 l) 20 (packed-length k) in
+    one-unpack (rw e at q) (UnpackPromise.fields k refl)
+
+-- Packing what was unpacked, into any output with room, gives the bytes that were handed in, and behind them what was there.
+pub back-and-there : {s l a x : List ℕ} (r : Record)
+    → UnpackPromise s (unpackNumbers (unpacked.Fields r)) → 20 ≤ length l → PackPromise r l a x
+    → (a ≡ packNumbers packed.Done) × (x ≡ s ++ drop 20 l)
+back-and-there r p h q = one-pack q (PackPromise.done (unpacked-fields r p) h refl refl)
+
+-- Stored at the start, the bytes stand before what was behind them.
+pub at-start : {r : Record} {s : List ℕ} (l : List ℕ) → Packs r s → 20 ≤ length l → sets l 0 s ≡ s ++ drop 20 l
+at-start {s = s} l p h =
+    let k = packed-length p in
+    let e : 0 + length s ≡ 20 = rw zero-add k in
+    let f : 0 + length s ≤ length l = omega arith in
+    sets-eq s l 0 f ∙ ap (λ (n : ℕ). s ++ drop n l) e

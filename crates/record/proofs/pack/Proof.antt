@@ -1,0 +1,31 @@
+-- `record::pack` meets its contract.
+use mathlib.Core.Path.{refl, _∙_}
+use native.Mathlib.Omega.{arith}
+use borrow.Author.Needs.{needs}
+use borrow.Author.Tests.{not-true, not-false}
+use Rattle.record.specs.Promise.{PackPromise}
+use Rattle.base.proofs.Tests.{shown, refuted}
+use Rattle.record.proofs.OneRecord.{packs}
+use Rattle.record.proofs.Promises.{at-start}
+use Rattle.record.proofs.pack.Statement.{statement}
+use Rattle.record.proofs.pack.Tie as tie
+
+pub pack-spec : {M : Type 1} → statement M
+pack-spec =
+    tie.close (tie.spec
+    (λ c κs. search needs)
+    (λ c.
+    let w = c .before .well-formed in
+    PackPromise.malformed (refuted (w .result) (not-true _ (c .if1 .taken)) (w .ensures)) refl refl)
+    (λ c.
+    let w = c .before .before .well-formed in
+    PackPromise.short (shown (w .result) (not-false _ (c .before .if1 .left)) (w .ensures)) (omega arith) refl refl)
+    (λ c κs.
+    let w = c .before .before .before .well-formed in
+    (omega arith, shown (w .result) (not-false _ (c .before .before .if1 .left)) (w .ensures)))
+    (λ c. search needs)
+    (λ c.
+    let w = c .before .before .before .before .before .before .well-formed in
+    let p = packs (shown (w .result) (not-false _ (c .before .before .before .before .before .if1 .left)) (w .ensures)) in
+    let l = c .before .before .before .before .before .before .before .before .args .out .now in
+    PackPromise.done p (omega arith) refl (c .before .before .put-record .ensures ∙ at-start l p (omega arith))))

@@ -1,0 +1,27 @@
+-- `record::put4` meets its contract.
+use native.Mathlib.Omega.{arith}
+use native.Mathlib.Nat.{add-zero}
+use lib.ListN.{length-set}
+use Rattle.record.proofs.Bytes.{stored, stored-none}
+use borrow.Author.Needs.{needs}
+use Rattle.record.proofs.put4.Statement.{statement}
+use Rattle.record.proofs.put4.Tie as tie
+
+pub put4-spec : {M : Type 1} → statement M
+put4-spec =
+    tie.close (tie.spec
+    (λ c. search needs)
+    (λ c. search needs)
+    (λ c. search needs)
+    (λ c. search needs)
+    (λ c. simp length-set (omega arith))
+    (λ c. search needs)
+    (λ c. search needs)
+    (λ c. simp length-set (omega arith))
+    (λ c. search needs)
+    (λ c. search needs)
+    (λ c. simp length-set (omega arith))
+    (λ c. search needs)
+    (λ c.
+    let a = c .args in
+    rw (stored 3 (a .out .now) (a .at) (a .n), stored 2, stored 1, stored 0, stored-none, add-zero)))

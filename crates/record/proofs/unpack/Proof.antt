@@ -1,0 +1,61 @@
+-- `record::unpack` meets its contract.
+use Prim.Native.Nat.{ℕ, _+_, _*_, _^_, _<_}
+use mathlib.Core.Path.{_≡_, refl, sym, _∙_, ap}
+use native.Mathlib.Omega.{arith}
+use borrow.Author.Needs.{needs}
+use borrow.Author.Tests.{not-true, not-false}
+use Rattle.record.specs.Bytes.{bytes}
+use Rattle.record.specs.Promise.{UnpackPromise}
+use Rattle.base.proofs.Tests.{shown, refuted}
+use Rattle.record.proofs.Words.{Widths, read-words, words-lt}
+use Rattle.record.proofs.OneRecord.{not-spare, only}
+use Rattle.record.proofs.unpack.Statement.{statement}
+use Rattle.record.proofs.unpack.Tie as tie
+
+abbrev words : tie.After-get82 → ℕ
+words c = (c .before .before .get4 .result * 256 ^ 8 + c .before .get8 .result) * 256 ^ 8 + c .get82 .result
+
+words-are : (c : tie.After-get82) → c .before .before .before .before .before .args .s .now ≡ bytes 20 (words c)
+words-are c =
+    let h = c .before .before .get4 in
+    let m = c .before .get8 in
+    let l = c .get82 in
+    read-words (c .before .before .before .before .before .args .s .now) (h .result) (m .result) (l .result)
+    (omega arith) (m .ensures .0) (l .ensures .0) (h .ensures .1) (m .ensures .1) (l .ensures .1)
+
+words-below : (c : tie.After-get82) → words c < 256 ^ 20
+words-below c =
+    let h = c .before .before .get4 in
+    let m = c .before .get8 in
+    let l = c .get82 in
+    words-lt (h .result) (m .result) (l .result) (h .ensures .0) (m .ensures .0) (l .ensures .0)
+
+pub unpack-spec : {M : Type 1} → statement M
+unpack-spec =
+    tie.close (tie.spec
+    (λ c. UnpackPromise.not-twenty (c .if1 .taken) refl)
+    (λ c κs. search needs)
+    (λ c κs. search needs)
+    (λ c κs. search needs)
+    (λ c.
+    let g = c .before in
+    UnpackPromise.malformed (omega arith)
+    (λ t p. not-spare _ (g .get82 .result) (words-below g) (words-are g) (λ z. c .if2 .taken (omega arith)) p) refl)
+    (λ c κs. search needs)
+    (λ c κs. search needs)
+    (λ c.
+    let w = c .before .well-formed in
+    let r = c .before .before .record-of in
+    let g = c .before .before .before .before in
+    let f = r .ensures .1 in
+    let b : Widths (r .result) =
+    record { offset = f .0; bus = f .1; kind = f .2; extended = f .3; id = f .4; len = f .5; «data» = f .6 } in
+    let n = refuted (w .result) (not-true _ (c .if3 .taken)) (w .ensures) in
+    UnpackPromise.malformed (omega arith)
+    (λ t p. n (rw (only (words-below g) (words-are g) b (r .ensures .0) p) at (p .formed))) refl)
+    (λ c.
+    let w = c .before .well-formed in
+    let r = c .before .before .record-of in
+    let s = words-are (c .before .before .before .before) in
+    let f = shown (w .result) (not-false _ (c .if3 .left)) (w .ensures) in
+    UnpackPromise.fields (record { formed = f; packed = s ∙ ap (bytes 20) (sym (r .ensures .0)) }) refl))

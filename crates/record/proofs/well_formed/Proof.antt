@@ -1,0 +1,43 @@
+-- `record::well_formed` meets its contract.
+use mathlib.Core.Logic.{⊎-elim}
+use native.Mathlib.Omega.{arith}
+use borrow.Author.Needs.{needs}
+use borrow.Author.Tests.{not-true, not-false}
+use Rattle.base.proofs.Tests.{same-test, shown, refuted}
+use Rattle.record.proofs.well_formed.Statement.{statement}
+use Rattle.record.proofs.well_formed.Tie as tie
+
+pub well-formed-spec : {M : Type 1} → statement M
+well-formed-spec =
+    tie.close (tie.spec
+    (λ c. search needs)
+    (λ c. search needs)
+    (λ c. search needs)
+    (λ c. search needs)
+    (λ c. search needs)
+    (λ c w. omega (arith, w .standard (omega arith)))
+    (λ c. search needs)
+    (λ c κs. search needs)
+    (λ c w. refuted (c .before .past .result) (not-true _ (c .if9 .taken)) (c .before .past .ensures) (w .past))
+    (λ c κs. search needs)
+    (λ c.
+    let p = c .before .before .past in
+    let z = shown (p .result) (not-false _ (c .before .if9 .left)) (p .ensures) in
+    let s = c .before .before .before .before .before .if6 .came in
+    same-test (c .as-kind .result)
+    (λ k. record {
+      offset = omega arith;
+      bus = omega arith;
+      kind = omega arith;
+      extended = omega arith;
+      standard = ⊎-elim (λ w e. omega arith) (λ w e. omega arith) s;
+      id = omega arith;
+      len = omega arith;
+      eight = omega arith;
+      past = z;
+      remote = k .0;
+      warning = k .1;
+      error = k .2;
+    })
+    (λ w. (w .remote, w .warning, w .error))
+    (c .as-kind .ensures)))
