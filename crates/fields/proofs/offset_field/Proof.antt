@@ -1,0 +1,85 @@
+-- `fields::offset_field` refuses no offset: each test holds of any (`offset-shape`).
+use Prim.Native.Nat.{ℕ, _+_, _*_, _-_, _^_, _≤_, _<_}
+use mathlib.Core.Path.{_≡_}
+use mathlib.Core.Logic.{⊎-elim}
+use mathlib.Core.List.{List}
+use native.Mathlib.Omega.{arith}
+use borrow.Author.Needs.{needs}
+use lib.ListN.{length, drop}
+use Rattle.fields.specs.Columns.{OffsetField}
+use Rattle.fields.specs.Window.{FieldAt, Takes, not}
+use Rattle.base.proofs.Tests.{shown-not, refuted-not}
+use Rattle.fields.proofs.Window.{inside}
+use Rattle.fields.proofs.DigitFields.{goes-on, OffsetTail, OffsetShape, offset-shape, offset-accept, scan-below, tenths, thousandths}
+use Rattle.fields.proofs.offset_field.Statement.{statement}
+use Rattle.fields.proofs.offset_field.Tie as tie
+
+-- the places behind the entry and the first scan
+abbrev start : tie.After-decimal → tie.Start
+start c = c .before .before
+
+abbrev whole : tie.After-decimal2 → tie.After-decimal
+whole c = c .before .before .before .before .before .before .before
+
+here : (c : tie.Start) → c .args .at < length (c .args .w .now)
+here c = inside (c .args .w .now) (c .args .at) (c .pre .0 .lined)
+
+point : (c : tie.After-decimal) → c .decimal .result .end < length (start c .args .w .now)
+point c = inside (start c .args .w .now) (c .decimal .result .end) (c .decimal .ensures .lined)
+
+three : (c : tie.Start) → c .args .digits ≤ 3
+three c = ⊎-elim (λ e. omega arith) (λ e. omega arith) (c .pre .1)
+
+shape : (c : tie.After-decimal) {v : ℕ} {f rest : List ℕ} → FieldAt f rest (drop (start c .args .at) (start c .args .w .now))
+    → OffsetField (start c .args .digits) v f → OffsetShape (start c .args .w .now) (start c .args .at) (start c .args .digits) (c .decimal .result)
+shape c a p = offset-shape (three (start c)) (c .decimal .ensures) a p
+
+accepted : (c : tie.After-decimal2) (v : ℕ) → OffsetTail (start (whole c) .args .w .now) (start (whole c) .args .digits) (whole c .decimal .result) (c .decimal2 .result)
+    → v ≡ whole c .decimal .result .value * 1000 + c .decimal2 .result .value * 10 ^ (3 - start (whole c) .args .digits)
+    → Takes (OffsetField (start (whole c) .args .digits)) (start (whole c) .args .w .now) (start (whole c) .args .at) (record { end = c .decimal2 .result .end; value = v })
+accepted c v h e =
+    let f = whole c .decimal .ensures .from in
+    offset-accept v (whole c .decimal .ensures) (c .decimal2 .ensures) (omega arith) (omega arith)
+    (λ l z. ⊎-elim (λ q. omega arith) (λ q. q .left z) (c .before .before .before .if3 .came)) (c .before .if5 .left) h e
+
+tail : (c : tie.Else7) → OffsetTail (c .before .before .before .before .before .before .before .before .before .before .before .before .before .args .w .now) (c .before .before .before .before .before .before .before .before .before .before .before .before .before .args .digits) (c .before .before .before .before .before .before .before .before .before .before .before .decimal .result) (c .before .before .before .before .decimal2 .result)
+tail c =
+    let f = c .before .before .before .before .decimal2 .ensures .from in
+    record { width = omega arith; stop = shown-not (c .before .ends .result) (c .before .ends .ensures) (c .if7 .left) }
+
+pub offset-field-spec : {M : Type 1} → statement M
+offset-field-spec =
+    tie.close
+    (tie.spec
+    (λ c κs. c .before .pre .0 .lined)
+    (λ c κs. search needs)
+    (λ c. not (c .none .ensures) (λ f rest a v p. let h = shape (c .before .before) a p in omega arith))
+    (λ c. omega (arith, here (c .before .before .before)))
+    (λ c κs. search needs)
+    (λ c. not (c .none2 .ensures) (λ f rest a v p. let h = shape (c .before .before .before) a p in omega arith))
+    (λ c. here (c .before .before .before .before .before))
+    (λ c. omega (arith, here (c .before .before .before .before .before .before)))
+    (λ c κs. search needs)
+    (λ c. not (c .none3 .ensures) (λ f rest a v p. shape (c .before .before .before .before .before .before) a p .lead (c .before .if4 .taken) (c .before .before .if3 .taken)))
+    (λ c. point (c .before .before .before .before .before))
+    (λ c κs. search needs)
+    (λ c. not (c .none4 .ensures) (λ f rest a v p. c .before .if5 .taken (shape (c .before .before .before .before .before .before .before) a p .point)))
+    (λ c. omega (arith, point (c .before .before .before .before .before .before)))
+    (λ c κs. goes-on (c .before .before .before .before .before .before .before .before .args .w .now) (c .before .before .before .before .before .before .decimal .result .end) 46 (c .before .before .before .before .before .before .decimal .ensures .lined) (c .if5 .left) (omega arith))
+    (λ c. let f = c .decimal2 .ensures .from in omega arith)
+    (λ c. omega (arith, three (c .before .before .before .before .before .before .before .before .before)))
+    (λ c κs. search needs)
+    (λ c. not (c .none5 .ensures) (λ f rest a v p. let h = shape (c .before .before .before .before .before .before .before .before .before) a p .tail (c .before .before .decimal2 .ensures) in c .before .if6 .taken (omega arith)))
+    (λ c. inside (c .before .before .before .before .before .before .before .before .before .before .before .args .w .now) (c .before .before .decimal2 .result .end) (c .before .before .decimal2 .ensures .lined))
+    (λ c κs. search needs)
+    (λ c κs. search needs)
+    (λ c. not (c .none6 .ensures) (λ f rest a v p.
+    refuted-not (c .before .before .ends .result) (c .before .before .ends .ensures) (c .before .if7 .taken) (shape (c .before .before .before .before .before .before .before .before .before .before .before .before) a p .tail (c .before .before .before .before .before .decimal2 .ensures) .stop)))
+    (λ c. omega (arith, scan-below (c .before .before .before .before .before .before .before .before .before .before .before .before .before .decimal .ensures)))
+    (λ c. omega (arith, scan-below (c .before .before .before .before .before .before .before .decimal2 .ensures)))
+    (λ c. omega (arith, scan-below (c .before .before .before .before .before .before .before .before .before .before .before .before .before .before .decimal .ensures), scan-below (c .before .before .before .before .before .before .before .decimal2 .ensures)))
+    (λ c. accepted (c .before .before .before .before .before .before .before) _ (tail (c .before .before .before)) (tenths (c .before .before .before .before .before .before .before .before .before .before .before .before .before .before .before .before .args .digits) _ _ (c .before .before .if8 .taken)))
+    (λ c. omega (arith, scan-below (c .before .before .before .before .before .before .before .before .before .before .before .before .before .decimal .ensures)))
+    (λ c. omega (arith, scan-below (c .before .before .before .before .before .before .before .before .before .before .before .before .before .before .decimal .ensures), scan-below (c .before .before .before .before .before .before .before .decimal2 .ensures)))
+    (λ c. let s = c .before .before .before .before .before .before .before .before .before .before .before .before .before .before .before .before in
+    accepted (c .before .before .before .before .before .before .before) _ (tail (c .before .before .before)) (thousandths (s .args .digits) _ _ (⊎-elim (λ q. absurd (c .before .before .if8 .left q)) (λ q. q) (s .pre .1)))))

@@ -1,0 +1,68 @@
+-- The columns of a row, one by one: a relation between a value and the bytes of its field.
+use Prim.Native.Nat.{ℕ, _+_, _*_, _-_, _^_, _≤_}
+use mathlib.Core.Path.{_≡_}
+use mathlib.Core.List.{List, [], _∷_, _++_}
+use lib.ListN.{length}
+use Rattle.digits.specs.Digits.{Decimal, Padded, Hex}
+
+-- The largest row number.
+abbrev pub lastNumber : ℕ
+lastNumber = 999999
+
+-- Row number and `)`, with nothing between: 1 to 999,999, no leading zero.
+pub record NumberField (k : ℕ) (f : List ℕ) : Type 0 where
+  pub digits : List ℕ
+  pub bytes : f ≡ digits ++ (41 ∷ [])
+  pub spelled : Decimal k digits
+  pub low : 1 ≤ k
+  pub high : k ≤ lastNumber
+
+-- Offset in milliseconds, kept as microseconds: 1 to 11 digits, no leading zero unless it is a lone 0, a point, then exactly w digits.
+pub record OffsetField (w offset : ℕ) (f : List ℕ) : Type 0 where
+  pub whole : List ℕ
+  pub part : List ℕ
+  pub bytes : f ≡ whole ++ (46 ∷ part)
+  pub ms : ℕ
+  pub fraction : ℕ
+  pub first : Decimal ms whole
+  pub short : length whole ≤ 11
+  pub second : Padded w fraction part
+  pub value : offset ≡ ms * 1000 + fraction * 10 ^ (3 - w)
+
+-- Bus, 1 to 16, no leading zero.
+pub record BusField (bus : ℕ) (f : List ℕ) : Type 0 where
+  pub spelled : Decimal bus f
+  pub low : 1 ≤ bus
+  pub high : bus ≤ 16
+
+-- `Rx`, `Tx`, `Warng` and `Error`, spelled exactly.
+abbrev pub markRx : List ℕ
+markRx = 82 ∷ 120 ∷ []
+
+abbrev pub markTx : List ℕ
+markTx = 84 ∷ 120 ∷ []
+
+abbrev pub markWarng : List ℕ
+markWarng = 87 ∷ 97 ∷ 114 ∷ 110 ∷ 103 ∷ []
+
+abbrev pub markError : List ℕ
+markError = 69 ∷ 114 ∷ 114 ∷ 111 ∷ 114 ∷ []
+
+-- The one field of a remote frame's data: `RTR`.
+abbrev pub remoteText : List ℕ
+remoteText = 82 ∷ 84 ∷ 82 ∷ []
+
+-- The ID of a frame: four digits up to 07FF, or eight, the extended form, up to 1FFFFFFF.
+pub data IdField (extended id : ℕ) (f : List ℕ) : Type 0 where
+  standard : extended ≡ 0 → Hex 4 id f → id ≤ 0x7FF → IdField extended id f
+  long : extended ≡ 1 → Hex 8 id f → id ≤ 0x1FFFFFFF → IdField extended id f
+
+-- Length, one digit 0 to 8.
+pub record LengthField (len : ℕ) (f : List ℕ) : Type 0 where
+  pub small : len ≤ 8
+  pub spelled : f ≡ (48 + len) ∷ []
+
+-- A capital letter A to Z: a warning's words have no other byte.
+pub record Capital (b : ℕ) : Type 0 where
+  pub low : 65 ≤ b
+  pub high : b ≤ 90

@@ -1,0 +1,4 @@
+pub mod Runs
+pub mod Parted
+pub mod Columns
+pub mod Window

@@ -1,0 +1,344 @@
+// Reads single fields of the window. A field is read without searching its end first: what stops its digits must end it.
+// Each reader takes the window as a slice first, `bytes`: a proof learns the length of an array behind a reference in no other way.
+use base::wide;
+use digits::hex_digit;
+ghost use mathlib.Core.Path.{_≡_};
+ghost use mathlib.Core.Logic.{_⊎_};
+ghost use mathlib.Core.List.{[], _∷_};
+ghost use Prim.Native.Nat.{_≤_, _<_};
+ghost use lib.ListN.{getD, drop};
+ghost use Rattle.base.specs.Decides.{Decides};
+ghost use Rattle.digits.specs.Digits.{DecimalDigit, HexDigit, Hex};
+ghost use Rattle.fields.specs.Runs.{All};
+ghost use Rattle.fields.specs.Columns.{NumberField, OffsetField, BusField, LengthField, Capital, remoteText};
+ghost use Rattle.fields.specs.Window.{Lined, Solid, Starts, Scanned, Takes, HexField, MarkField};
+
+// What was read at a place: the place behind it, or 0, and its number.
+pub struct Scan {
+    pub end: usize,
+    pub value: u64,
+}
+
+// Whether a field ends before this byte: a blank, or the CR behind the line.
+pub fn ends(b: u8) -> bool
+    ensures { λ r. ⌜ Decides ((b ≡ 32) ⊎ (b ≡ 13)) r ⌝ }
+{
+    if b == 32 {
+        return true;
+    }
+    b == 13
+}
+
+// No such field.
+fn none() -> Scan
+    ensures { λ s. ⌜ s .end ≡ 0 ⌝ }
+{
+    Scan { end: 0, value: 0 }
+}
+
+// The decimal digits from a place on, at most twelve.
+fn decimal(w: &[u8; 256], at: usize) -> Scan
+    requires { ⌜ Lined (drop at (now w)) ⌝ }
+    ensures { λ s. ⌜ Scanned DecimalDigit 10 12 (now (w .entry)) at s ⌝ }
+{
+    let bytes: &[u8] = w;
+    let mut n: u64 = 0;
+    let mut i = at;
+    while i < at + 12 {
+        let b = bytes[i];
+        if b < 48 {
+            return Scan { end: i, value: n };
+        }
+        if 57 < b {
+            return Scan { end: i, value: n };
+        }
+        n = n * 10 + wide(b - 48);
+        i += 1;
+    }
+    Scan { end: i, value: n }
+}
+
+// The hexadecimal digits from a place on, at most nine.
+fn hexadecimal(w: &[u8; 256], at: usize) -> Scan
+    requires { ⌜ Lined (drop at (now w)) ⌝ }
+    ensures { λ s. ⌜ Scanned HexDigit 16 9 (now (w .entry)) at s ⌝ }
+{
+    let bytes: &[u8] = w;
+    let mut n: u64 = 0;
+    let mut i = at;
+    while i < at + 9 {
+        let d = hex_digit(bytes[i]);
+        if 16 <= d {
+            return Scan { end: i, value: n };
+        }
+        n = n * 16 + wide(d);
+        i += 1;
+    }
+    Scan { end: i, value: n }
+}
+
+// The row number k and `)`.
+pub fn number_field(w: &[u8; 256], at: usize, k: u64) -> Scan
+    requires { ⌜ Starts (now w) at ⌝ }
+    ensures { λ s. ⌜ Takes (λ v f. NumberField k f) (now (w .entry)) at s ⌝ }
+{
+    let bytes: &[u8] = w;
+    if bytes[at] == 48 {
+        return none();
+    }
+    let s = decimal(w, at);
+    let e = s.end;
+    if e == at {
+        return none();
+    }
+    if at + 6 < e {
+        return none();
+    }
+    if s.value != k {
+        return none();
+    }
+    if bytes[e] != 41 {
+        return none();
+    }
+    if !ends(bytes[e + 1]) {
+        return none();
+    }
+    Scan {
+        end: e + 1,
+        value: k,
+    }
+}
+
+// An offset with so many digits behind its point, as microseconds.
+pub fn offset_field(w: &[u8; 256], at: usize, digits: usize) -> Scan
+    requires { ⌜ Starts (now w) at × ((digits ≡ 1) ⊎ (digits ≡ 3)) ⌝ }
+    ensures { λ s. ⌜ Takes (OffsetField digits) (now (w .entry)) at s ⌝ }
+{
+    let bytes: &[u8] = w;
+    let s = decimal(w, at);
+    let e = s.end;
+    if e == at {
+        return none();
+    }
+    if at + 11 < e {
+        return none();
+    }
+    if bytes[at] == 48 {
+        if at + 1 < e {
+            return none();
+        }
+    }
+    if bytes[e] != 46 {
+        return none();
+    }
+    let t = decimal(w, e + 1);
+    let f = t.end;
+    if f - e != digits + 1 {
+        return none();
+    }
+    if !ends(bytes[f]) {
+        return none();
+    }
+    if digits == 1 {
+        return Scan {
+            end: f,
+            value: s.value * 1000 + t.value * 100,
+        };
+    }
+    Scan {
+        end: f,
+        value: s.value * 1000 + t.value,
+    }
+}
+
+// A bus.
+pub fn bus_field(w: &[u8; 256], at: usize) -> Scan
+    requires { ⌜ Starts (now w) at ⌝ }
+    ensures { λ s. ⌜ Takes BusField (now (w .entry)) at s ⌝ }
+{
+    let bytes: &[u8] = w;
+    if bytes[at] == 48 {
+        return none();
+    }
+    let s = decimal(w, at);
+    let e = s.end;
+    if e == at {
+        return none();
+    }
+    if 16 < s.value {
+        return none();
+    }
+    if !ends(bytes[e]) {
+        return none();
+    }
+    Scan {
+        end: e,
+        value: s.value,
+    }
+}
+
+// A mark that starts with this byte and goes on with `x`.
+fn short_mark(w: &[u8; 256], at: usize, value: u64) -> Scan
+    requires { ⌜ Starts (now w) at ⌝ }
+    ensures { λ s. ⌜ Takes (λ v f. (f ≡ getD (now (w .entry)) at 0 ∷ 120 ∷ []) × (v ≡ value)) (now (w .entry)) at s ⌝ }
+{
+    let bytes: &[u8] = w;
+    if bytes[at + 1] != 120 {
+        return none();
+    }
+    if !ends(bytes[at + 2]) {
+        return none();
+    }
+    Scan { end: at + 2, value }
+}
+
+// A mark that starts with this byte and goes on with these four.
+fn long_mark(w: &[u8; 256], at: usize, a: u8, b: u8, c: u8, d: u8, value: u64) -> Scan
+    requires { ⌜ Starts (now w) at × Solid a × Solid b × Solid c × Solid d ⌝ }
+    ensures { λ s. ⌜ Takes (λ v f. (f ≡ getD (now (w .entry)) at 0 ∷ a ∷ b ∷ c ∷ d ∷ []) × (v ≡ value)) (now (w .entry)) at s ⌝ }
+{
+    let bytes: &[u8] = w;
+    if bytes[at + 1] != a {
+        return none();
+    }
+    if bytes[at + 2] != b {
+        return none();
+    }
+    if bytes[at + 3] != c {
+        return none();
+    }
+    if bytes[at + 4] != d {
+        return none();
+    }
+    if !ends(bytes[at + 5]) {
+        return none();
+    }
+    Scan { end: at + 5, value }
+}
+
+// `Rx`, `Tx`, `Warng` or `Error`.
+pub fn mark_field(w: &[u8; 256], at: usize) -> Scan
+    requires { ⌜ Starts (now w) at ⌝ }
+    ensures { λ s. ⌜ Takes MarkField (now (w .entry)) at s ⌝ }
+{
+    let bytes: &[u8] = w;
+    let m = bytes[at];
+    match m {
+        82 => short_mark(w, at, 0),
+        84 => short_mark(w, at, 1),
+        87 => long_mark(w, at, 97, 114, 110, 103, 2),
+        69 => long_mark(w, at, 114, 114, 111, 114, 3),
+        _ => none(),
+    }
+}
+
+// A hexadecimal number of at most eight digits.
+pub fn hex_field(w: &[u8; 256], at: usize) -> Scan
+    requires { ⌜ Starts (now w) at ⌝ }
+    ensures { λ s. ⌜ Takes HexField (now (w .entry)) at s ⌝ }
+{
+    let bytes: &[u8] = w;
+    let s = hexadecimal(w, at);
+    let e = s.end;
+    if e == at {
+        return none();
+    }
+    if at + 8 < e {
+        return none();
+    }
+    if !ends(bytes[e]) {
+        return none();
+    }
+    Scan {
+        end: e,
+        value: s.value,
+    }
+}
+
+// A length.
+pub fn length_field(w: &[u8; 256], at: usize) -> Scan
+    requires { ⌜ Starts (now w) at ⌝ }
+    ensures { λ s. ⌜ Takes LengthField (now (w .entry)) at s ⌝ }
+{
+    let bytes: &[u8] = w;
+    let b = bytes[at];
+    if b < 48 {
+        return none();
+    }
+    if 56 < b {
+        return none();
+    }
+    if !ends(bytes[at + 1]) {
+        return none();
+    }
+    Scan {
+        end: at + 1,
+        value: wide(b - 48),
+    }
+}
+
+// A byte of two hexadecimal digits.
+pub fn byte_field(w: &[u8; 256], at: usize) -> Scan
+    requires { ⌜ Starts (now w) at ⌝ }
+    ensures { λ s. ⌜ Takes (Hex 2) (now (w .entry)) at s ⌝ }
+{
+    let bytes: &[u8] = w;
+    let a = hex_digit(bytes[at]);
+    if 16 <= a {
+        return none();
+    }
+    let b = hex_digit(bytes[at + 1]);
+    if 16 <= b {
+        return none();
+    }
+    if !ends(bytes[at + 2]) {
+        return none();
+    }
+    Scan {
+        end: at + 2,
+        value: wide(a) * 16 + wide(b),
+    }
+}
+
+// `RTR`.
+pub fn remote_field(w: &[u8; 256], at: usize) -> Scan
+    requires { ⌜ Starts (now w) at ⌝ }
+    ensures { λ s. ⌜ Takes (λ v f. f ≡ remoteText) (now (w .entry)) at s ⌝ }
+{
+    let bytes: &[u8] = w;
+    if bytes[at] != 82 {
+        return none();
+    }
+    if bytes[at + 1] != 84 {
+        return none();
+    }
+    if bytes[at + 2] != 82 {
+        return none();
+    }
+    if !ends(bytes[at + 3]) {
+        return none();
+    }
+    Scan {
+        end: at + 3,
+        value: 0,
+    }
+}
+
+// A word of capital letters.
+pub fn word_field(w: &[u8; 256], at: usize) -> Scan
+    requires { ⌜ Starts (now w) at ⌝ }
+    ensures { λ s. ⌜ Takes (λ v f. All Capital f) (now (w .entry)) at s ⌝ }
+{
+    let bytes: &[u8] = w;
+    let mut i = at;
+    while !ends(bytes[i]) {
+        if bytes[i] < 65 {
+            return none();
+        }
+        if 90 < bytes[i] {
+            return none();
+        }
+        i += 1;
+    }
+    Scan { end: i, value: 0 }
+}
