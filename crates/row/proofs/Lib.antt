@@ -1,0 +1,13 @@
+pub mod Columns
+pub mod Cycle
+pub mod Data
+pub mod Ending
+pub mod Fields
+pub mod Formed
+pub mod Moves
+pub mod One
+pub mod Plain
+pub mod Spelled
+pub mod Texts
+pub mod Warnings
+pub mod Whole

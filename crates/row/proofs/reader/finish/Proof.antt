@@ -1,0 +1,26 @@
+-- `row::reader::finish` puts the record's fields into the slots, if the row is whole.
+use native.Mathlib.Omega.{arith}
+use borrow.Author.Needs.{needs}
+use borrow.Author.Tests.{not-true, not-false}
+use lib.ListN.{length-set}
+use Rattle.row.proofs.Cycle.{seven, not-whole, is-whole}
+use Rattle.row.proofs.reader.finish.Statement.{statement}
+use Rattle.row.proofs.reader.finish.Tie as tie
+
+pub finish-spec : {M : Type 1} → statement M
+finish-spec =
+    tie.close
+    (tie.spec
+    (λ c κs. search needs)
+    (λ c. not-whole (c .before .complete .result) (not-true _ (c .if1 .taken)) (c .before .complete .ensures))
+    (λ c. search needs)
+    (λ c. search needs)
+    (λ c. simp length-set (search needs))
+    (λ c. simp length-set (search needs))
+    (λ c. simp length-set (search needs))
+    (λ c. simp length-set (search needs))
+    (λ c. simp length-set (search needs))
+    (λ c. search needs)
+    (λ c. let s = c .before .before .before .before .args in
+    is-whole (c .before .before .before .complete .result) (not-false _ (c .before .before .if1 .left)) (c .before .before .before .complete .ensures)
+    (seven (s .out .now) (s .p .r) (search needs)) (omega arith)))

@@ -1,0 +1,24 @@
+-- `row::reader::read_row` frames the line, reads it, and takes it only if it was read to its end.
+use native.Mathlib.Omega.{arith}
+use borrow.Author.Needs.{needs}
+use Rattle.row.proofs.Whole.{framed, not-read, is-read}
+use Rattle.row.proofs.reader.read_row.Statement.{statement}
+use Rattle.row.proofs.reader.read_row.Tie as tie
+
+pub read-row-spec : {M : Type 1} → statement M
+read-row-spec =
+    tie.close
+    (tie.spec
+    (λ c r h w. omega arith)
+    (λ c κs. search needs)
+    (λ c κs. rw (c .before .before .window .ensures) (let x = framed (c .before .before .before .before .before .before .args .line .now) _ in record { line = x .line; is = x .is }))
+    (λ c. search needs)
+    (λ c r h w. not-read _ (λ line l. c .before .row-in .ensures line (rw (c .before .before .before .before .window .ensures) l)) (c .if2 .taken) r w)
+    (λ c. search needs)
+    (λ c. search needs)
+    (λ c. search needs)
+    (λ c. search needs)
+    (λ c. search needs)
+    (λ c. search needs)
+    (λ c. search needs)
+    (λ c. (omega arith, is-read _ (λ line l. c .before .row-in .ensures line (rw (c .before .before .before .before .window .ensures) l)) (c .if2 .left))))

@@ -1,0 +1,15 @@
+-- `row::reader::row_in` starts at the stage of its version, and no row has another.
+use borrow.Author.Needs.{needs}
+use Rattle.row.proofs.Cycle.{row11, row12, no-version}
+use Rattle.row.proofs.reader.row_in.Statement.{statement}
+use Rattle.row.proofs.reader.row_in.Tie as tie
+
+pub row-in-spec : {M : Type 1} → statement M
+row-in-spec =
+    tie.close
+    (tie.spec
+    (λ c κs. search needs)
+    (λ c κs. search needs)
+    (λ c line l. rw (c .before .before .match .keys1) (row11 (c .gap .ensures line l)))
+    (λ c line l. rw (c .before .before .match .keys2) (row12 (c .gap2 .ensures line l)))
+    (λ c line l. no-version (c .match .rest .0 .1) (c .match .rest .1)))

@@ -1,0 +1,168 @@
+-- The stages of the row reader: what its private functions promise each other. No public promise cites this file.
+use Prim.Native.Nat.{ℕ, suc, _+_, _*_, _-_, _/_, _^_, _≤_}
+use mathlib.Core.Path.{_≡_}
+use mathlib.Core.Logic.{_≢_}
+use mathlib.Core.Bool.{Bool, true, false}
+use mathlib.Core.List.{List, [], _∷_}
+use lib.ListN.{length, getD, drop}
+use lib.Seq.{slice}
+use Rattle.digits.specs.Digits.{Hex}
+use Rattle.record.specs.declared.Record.{Record}
+use Rattle.record.specs.Promise.{fieldsOf}
+use Rattle.row.specs.declared.Stage.{Stage}
+use Rattle.row.specs.declared.Stage.the-variants as stage
+use Rattle.row.specs.declared.Part.{Part}
+use Rattle.row.specs.declared.Step.{Step}
+use Rattle.fields.specs.Parted.{Parted}
+use Rattle.fields.specs.Runs.{All}
+use Rattle.fields.specs.Window.{Lined, FieldAt}
+use Rattle.row.specs.Row.{
+  Row,
+  RowFields,
+  FromOffset,
+  FromBus,
+  FromMark,
+  FrameId,
+  FrameLength,
+  FrameData,
+  WarningId,
+  WarningLength,
+  ErrorIdField,
+  ErrorLength,
+  ErrorFirst,
+  ErrorSecond,
+  ByteFields,
+  Words,
+  Nothing,
+}
+
+-- The state: what the fields read so far leave of a record to be told.
+
+-- offset and bus are known
+abbrev pub known2 : Record → List ℕ
+known2 r = r .offset ∷ r .bus ∷ []
+
+-- and the ID
+abbrev pub known4 : Record → List ℕ
+known4 r = r .offset ∷ r .bus ∷ r .extended ∷ r .id ∷ []
+
+-- and the length
+abbrev pub known5 : Record → List ℕ
+known5 r = r .offset ∷ r .bus ∷ r .extended ∷ r .id ∷ r .len ∷ []
+
+-- and the kind: all but the data
+abbrev pub known6 : Record → List ℕ
+known6 r = r .offset ∷ r .bus ∷ r .extended ∷ r .id ∷ r .len ∷ r .kind ∷ []
+
+-- The record with so much more data.
+abbrev pub plus : Record → ℕ → Record
+plus r n =
+    record { offset = r .offset; bus = r .bus; kind = r .kind; extended = r .extended; id = r .id; len = r .len; «data» = r .«data» + n }
+
+-- Some bytes are read; those left add what is missing of the data.
+pub record Gathers (Then : List (List ℕ) → Type 0) (p : Part) (fs : List (List ℕ)) (r : Record) : Type 0 where
+  pub known : known6 r ≡ known6 (p .r)
+  pub sum : ℕ
+  pub bytes : ByteFields Then (p .place) (p .left) sum fs
+  pub total : r .«data» ≡ p .r .«data» + sum
+
+-- The same where the second byte of an error frame is next.
+pub record GathersSecond (p : Part) (fs : List (List ℕ)) (r : Record) : Type 0 where
+  pub known : known6 r ≡ known6 (p .r)
+  pub sum : ℕ
+  pub bytes : ErrorSecond sum fs
+  pub total : r .«data» ≡ p .r .«data» + sum
+
+abbrev pub continues : Stage → Part → List (List ℕ) → Record → Type 0
+continues stage.Number11 p fs r = RowFields 11 (p .left) r fs
+continues stage.Number12 p fs r = RowFields 12 (p .left) r fs
+continues stage.Offset11 p fs r = FromOffset r 11 fs
+continues stage.Offset12 p fs r = FromOffset r 12 fs
+continues stage.Bus p fs r = (r .offset ≡ p .r .offset) × FromBus r fs
+continues stage.Mark p fs r = (known2 r ≡ known2 (p .r)) × FromMark r fs
+continues stage.Id p fs r = (known2 r ≡ known2 (p .r)) × FrameId (p .r .kind) r fs
+continues stage.Length p fs r = (known4 r ≡ known4 (p .r)) × FrameLength (p .r .kind) r fs
+continues stage.Data p fs r = (known5 r ≡ known5 (p .r)) × FrameData (p .r .kind) r fs
+continues stage.Bytes p fs r = Gathers Nothing p fs r
+continues stage.WarningId p fs r = (known2 r ≡ known2 (p .r)) × WarningId r fs
+continues stage.WarningLength p fs r = (known6 r ≡ known6 (p .r)) × WarningLength r fs
+continues stage.WarningBytes p fs r = Gathers Words p fs r
+continues stage.ErrorId p fs r = (known2 r ≡ known2 (p .r)) × ErrorIdField r fs
+continues stage.ErrorLength p fs r = (known4 r ≡ known4 (p .r)) × (r .kind ≡ 5) × ErrorLength r fs
+continues stage.ErrorFirst p fs r = (known6 r ≡ known6 (p .r)) × ErrorFirst (r .«data») fs
+continues stage.ErrorSecond p fs r = GathersSecond p fs r
+
+-- The fields fs, read on from the state p, end in r.
+abbrev pub Continues : Part → List (List ℕ) → Record → Type 0
+Continues p fs r = continues (p .stage) p fs r
+
+-- What holds of every state that is reached: the data so far leaves room for the bytes that are left.
+abbrev pub good : Stage → Part → Type 0
+good stage.Number11 p = p .r .«data» ≡ 0
+good stage.Number12 p = p .r .«data» ≡ 0
+good stage.Offset11 p = p .r .«data» ≡ 0
+good stage.Offset12 p = p .r .«data» ≡ 0
+good stage.Bus p = p .r .«data» ≡ 0
+good stage.Mark p = p .r .«data» ≡ 0
+good stage.Id p = (p .r .kind ≤ 1) × (p .r .«data» ≡ 0)
+good stage.Length p = (p .r .kind ≤ 1) × (p .r .«data» ≡ 0)
+good stage.Data p = (p .r .kind ≤ 1) × (p .r .«data» ≡ 0) × (p .left ≡ p .r .len) × (p .place ≡ 256 ^ 7)
+good stage.Bytes p = p .r .«data» + 256 * p .place ≤ 256 ^ 8
+good stage.WarningId p = p .r .«data» ≡ 0
+good stage.WarningLength p = p .r .«data» ≡ 0
+good stage.WarningBytes p = p .r .«data» + 256 * p .place ≤ 256 ^ 8
+good stage.ErrorId p = p .r .«data» ≡ 0
+good stage.ErrorLength p = p .r .«data» ≡ 0
+good stage.ErrorFirst p = p .r .«data» ≡ 0
+good stage.ErrorSecond p = p .r .«data» ≤ 256 ^ 7
+
+abbrev pub Good : Part → Type 0
+Good p = good (p .stage) p
+
+-- Reading one field at `at`, where C says which fields end in which record: either t goes on behind the field, or none goes on with it.
+pub data Steps (w : List ℕ) (at : ℕ) (C : List (List ℕ) → Record → Type 0) (t : Step) : Type 0 where
+  moved : {f : List ℕ} → FieldAt f (drop (t .at) w) (drop at w) → t .at ≡ at + length f → Good (t .part)
+      → ((fs : List (List ℕ)) (r : Record) → C (f ∷ fs) r → Continues (t .part) fs r)
+      → ((fs : List (List ℕ)) (r : Record) → Continues (t .part) fs r → C (f ∷ fs) r) → Steps w at C t
+  stuck : t .at ≡ 0
+      → ((f rest : List ℕ) → FieldAt f rest (drop at w) → (fs : List (List ℕ)) (r : Record) → C (f ∷ fs) r → ⊥) → Steps w at C t
+
+-- Reading one data byte at `at`: none stands there, or it is the next of p's bytes, and the stage is `next`.
+pub data Byted (w : List ℕ) (at : ℕ) (next : Stage) (p : Part) (t : Step) : Type 0 where
+  no-byte : t .at ≡ 0 → ((f rest : List ℕ) → FieldAt f rest (drop at w) → (v : ℕ) → Hex 2 v f → ⊥) → Byted w at next p t
+  one-byte : {f : List ℕ} {v : ℕ} → FieldAt f (drop (t .at) w) (drop at w) → t .at ≡ at + length f → Hex 2 v f
+      → t .part ≡ record { stage = next; left = p .left - 1; place = p .place / 256; r = plus (p .r) (v * p .place) } → Byted w at next p t
+
+-- The blanks from `at` on end at a.
+pub record Skipped (w : List ℕ) (at a : ℕ) : Type 0 where
+  pub from : at ≤ a
+  pub blanks : All (λ b. b ≡ 32) (slice at a w)
+  pub stop : getD w a 0 ≢ 32
+  pub lined : Lined (drop a w)
+
+-- The state as the cycle carries it, number by number.
+abbrev pub part : Stage → ℕ → ℕ → ℕ → ℕ → ℕ → ℕ → ℕ → ℕ → ℕ → Part
+part stage left place offset bus kind extended id len word =
+    record {
+      stage = stage;
+      left = left;
+      place = place;
+      r = record { offset = offset; bus = bus; kind = kind; extended = extended; id = id; len = len; «data» = word };
+    }
+
+-- Where the line ends at stage x: the record is whole, or too little was read.
+pub data Ends (x : Stage) (p : Part) : Bool → Type 0 where
+  whole : continues x p [] (p .r) → ((r : Record) → continues x p [] r → r ≡ p .r) → Ends x p true
+  early : ((r : Record) → continues x p [] r → ⊥) → Ends x p false
+
+-- Reading the line on from the state p at `at` gives e: 0 if it ends in no record, else one more than the place of its CR, and then the
+-- record's fields stand in `out`.
+pub data Finds (p : Part) (at : ℕ) (line out : List ℕ) (e : ℕ) : Type 0 where
+  found : {fs : List (List ℕ)} {r : Record} → Parted fs line → Continues p fs r → out ≡ fieldsOf r → e ≡ suc (at + length line)
+      → Finds p at line out e
+  none : e ≡ 0 → ((fs : List (List ℕ)) (r : Record) → Parted fs line → Continues p fs r → ⊥) → Finds p at line out e
+
+-- The same for a whole line, read as row k of a version.
+pub data RowFound (v k : ℕ) (line out : List ℕ) (e : ℕ) : Type 0 where
+  row-found : {r : Record} → Row v k r line → out ≡ fieldsOf r → e ≡ suc (length line) → RowFound v k line out e
+  no-row : e ≡ 0 → ((r : Record) → Row v k r line → ⊥) → RowFound v k line out e

@@ -1,0 +1,50 @@
+// One row of a trace: read into a record, and written as the house spells it.
+mod reader;
+mod stages;
+
+pub use reader::read_row;
+pub use reader::row_in;
+pub use reader::window;
+use record::Record;
+
+// A record, or not a row.
+pub enum Reading {
+    Is(Record),
+    Not,
+}
+
+// Where the reader is in the columns of a row: what the next field is.
+pub enum Stage {
+    Number11,
+    Number12,
+    Offset11,
+    Offset12,
+    Bus,
+    Mark,
+    Id,
+    Length,
+    Data,
+    Bytes,
+    WarningId,
+    WarningLength,
+    WarningBytes,
+    ErrorId,
+    ErrorLength,
+    ErrorFirst,
+    ErrorSecond,
+}
+
+// What is known after some fields: the record so far, and of the bytes that are left their number and the place value of the first.
+// Before the row number is read, `left` is the number that is expected.
+pub struct Part {
+    pub stage: Stage,
+    pub left: u64,
+    pub place: u64,
+    pub r: Record,
+}
+
+// The place behind a field, and what is known then; place 0 if no row goes on with the field.
+pub struct Step {
+    pub at: usize,
+    pub part: Part,
+}
