@@ -1,0 +1,118 @@
+-- The text of each column, by the tests that the writer makes.
+use Prim.Native.Nat.{ℕ, zero, suc, _+_, _*_, _/_, _%_, _^_, _≤_, _<_}
+use mathlib.Core.Path.{_≡_, refl, _∙_}
+use mathlib.Core.Logic.{_⊎_, inl, inr, ⊎-elim}
+use mathlib.Core.List.{[], _∷_, _++_, append-nil}
+use native.Mathlib.Nat.{div-one}
+use native.Mathlib.Omega.{arith}
+use borrow.Author.Tests.{eq-eqb, ne-eqb}
+use lib.ListN.{length, length-append}
+use Rattle.digits.specs.declared.Letters.the-variants.{Capital}
+use Rattle.digits.specs.House.{decimalText, paddedText, hexText}
+use Rattle.digits.proofs.House.{length-fixed, few}
+use Rattle.record.specs.declared.Record.{Record}
+use Rattle.fields.specs.Columns.{markRx, markTx, markWarng, markError, remoteText}
+use Rattle.row.specs.House.{fractionDigits, numberText, offsetText, busTexts, markText, idText, byteTexts, dataTexts}
+use Rattle.row_writer.specs.Parts.{spaced}
+use Rattle.row_writer.proofs.Rows.{spaced-none, spaced-more}
+
+-- what a machine word holds has at most 20 digits
+pub short : (n : ℕ) → n < 2 ^ 64 → length (decimalText n) ≤ 20
+short n h = few 19 n (omega arith)
+
+pub number : (k : ℕ) → numberText k ≡ decimalText k ++ (41 ∷ [])
+unfolding numberText
+number k = refl
+
+pub length-number : (k : ℕ) → length (numberText k) ≡ length (decimalText k) + 1
+length-number k = rw (number, length-append)
+
+pub offset-11 : (v n : ℕ) → v ≡ 11 → offsetText v n ≡ decimalText (n / 1000) ++ (46 ∷ paddedText 1 (n % 1000 / 100))
+unfolding offsetText
+offset-11 v n e = rw (eq-eqb v 11 e)
+
+pub offset-12 : (v n : ℕ) → (v ≡ 11 → ⊥) → offsetText v n ≡ decimalText (n / 1000) ++ (46 ∷ paddedText 3 (n % 1000))
+unfolding offsetText
+offset-12 v n f = rw (ne-eqb v 11 f, div-one)
+
+pub length-offset : (v n : ℕ) → length (offsetText v n) ≡ length (decimalText (n / 1000)) + suc (fractionDigits v)
+unfolding offsetText
+length-offset v n = rw (length-append, length-fixed)
+
+pub digits-11 : (v : ℕ) → v ≡ 11 → fractionDigits v ≡ 1
+digits-11 v e = rw (eq-eqb v 11 e)
+
+pub digits-12 : (v : ℕ) → (v ≡ 11 → ⊥) → fractionDigits v ≡ 3
+digits-12 v f = rw (ne-eqb v 11 f)
+
+pub bus-11 : (v n : ℕ) → v ≡ 11 → spaced (busTexts v n) ≡ []
+unfolding busTexts
+bus-11 v n e = rw (eq-eqb v 11 e, spaced-none)
+
+pub bus-12 : (v n : ℕ) → (v ≡ 11 → ⊥) → spaced (busTexts v n) ≡ 32 ∷ decimalText n
+unfolding busTexts
+bus-12 v n f = rw (ne-eqb v 11 f, spaced-more, spaced-none, append-nil (decimalText n))
+
+pub rx : (kind : ℕ) → (kind ≡ 0) ⊎ (kind ≡ 2) → markText kind ≡ markRx
+unfolding markText
+rx kind = ⊎-elim (λ e. rw e) (λ e. rw e)
+
+pub tx : (kind : ℕ) → (kind ≡ 1) ⊎ (kind ≡ 3) → markText kind ≡ markTx
+unfolding markText
+tx kind = ⊎-elim (λ e. rw e) (λ e. rw e)
+
+pub warng : (kind : ℕ) → kind ≡ 4 → markText kind ≡ markWarng
+unfolding markText
+warng kind e = rw e
+
+-- what is left of the kinds
+pub error : (kind : ℕ) → kind ≤ 5 → ((kind ≡ 0) ⊎ (kind ≡ 2) → ⊥) → ((kind ≡ 1) ⊎ (kind ≡ 3) → ⊥) → (kind ≡ 4 → ⊥)
+    → markText kind ≡ markError
+unfolding markText
+error zero h f g k = absurd (f (inl refl))
+error (suc zero) h f g k = absurd (g (inl refl))
+error (suc (suc zero)) h f g k = absurd (f (inr refl))
+error (suc (suc (suc zero))) h f g k = absurd (g (inr refl))
+error (suc (suc (suc (suc zero)))) h f g k = absurd (k refl)
+error (suc (suc (suc (suc (suc zero))))) h f g k = refl
+error (suc (suc (suc (suc (suc (suc n)))))) h f g k = absurd (omega arith)
+
+pub short-mark : (kind : ℕ) → kind < 4 → length (markText kind) ≡ 2
+unfolding markText
+short-mark zero h = refl
+short-mark (suc zero) h = refl
+short-mark (suc (suc zero)) h = refl
+short-mark (suc (suc (suc zero))) h = refl
+short-mark (suc (suc (suc (suc n)))) h = absurd (omega arith)
+
+pub long-mark : (kind : ℕ) → 4 ≤ kind → kind ≤ 5 → length (markText kind) ≡ 5
+unfolding markText
+long-mark zero h l = absurd (omega arith)
+long-mark (suc zero) h l = absurd (omega arith)
+long-mark (suc (suc zero)) h l = absurd (omega arith)
+long-mark (suc (suc (suc zero))) h l = absurd (omega arith)
+long-mark (suc (suc (suc (suc zero)))) h l = refl
+long-mark (suc (suc (suc (suc (suc zero))))) h l = refl
+long-mark (suc (suc (suc (suc (suc (suc n)))))) h l = absurd (omega arith)
+
+pub warning-id : (r : Record) → r .kind ≡ 4 → idText r ≡ hexText Capital 8 0xFFFFFFFF
+unfolding idText
+warning-id r e = rw (eq-eqb (r .kind) 4 e)
+
+pub frame-id : (r : Record) → (r .kind ≡ 4 → ⊥) → idText r ≡ hexText Capital (4 + 4 * r .extended) (r .id)
+unfolding idText
+frame-id r f = rw (ne-eqb (r .kind) 4 f)
+
+pub extended-id : (r : Record) → (r .kind ≡ 4 → ⊥) → r .extended ≡ 1 → idText r ≡ hexText Capital 8 (r .id)
+extended-id r f e = frame-id r f ∙ rw e
+
+pub standard-id : (r : Record) → (r .kind ≡ 4 → ⊥) → r .extended ≡ 0 → idText r ≡ hexText Capital 4 (r .id)
+standard-id r f e = frame-id r f ∙ rw e
+
+pub remote-data : (r : Record) → r .kind / 2 ≡ 1 → spaced (dataTexts r) ≡ 32 ∷ remoteText
+unfolding dataTexts
+remote-data r e = rw (eq-eqb (r .kind / 2) 1 e, spaced-more, spaced-none)
+
+pub frame-data : (r : Record) → (r .kind / 2 ≡ 1 → ⊥) → dataTexts r ≡ byteTexts (256 ^ 7) (r .len) (r .«data»)
+unfolding dataTexts
+frame-data r f = rw (ne-eqb (r .kind / 2) 1 f)

@@ -1,0 +1,58 @@
+-- The row as the writer puts it together: the fields before the mark, then those from the mark on, each behind one blank.
+use Prim.Native.Nat.{ℕ, _+_}
+use mathlib.Core.Path.{_≡_, refl, ap, _∙_}
+use mathlib.Core.List.{List, [], _∷_, _++_, append-assoc, append-nil}
+use native.Mathlib.Omega.{arith}
+use lib.ListN.{length, length-append}
+use Rattle.record.specs.declared.Record.{Record}
+use Rattle.row.specs.House.{joined, numberText, offsetText, busTexts, markText, idText, dataTexts, rowTexts, rowText}
+use Rattle.row_writer.specs.Parts.{spaced, headTexts, frameTexts}
+
+pub spaced-none : spaced [] ≡ []
+unfolding spaced
+spaced-none = refl
+
+pub spaced-more : (f : List ℕ) (fs : List (List ℕ)) → spaced (f ∷ fs) ≡ (32 ∷ f) ++ spaced fs
+unfolding spaced
+spaced-more f fs = refl
+
+pub spaced-append : (fs gs : List (List ℕ)) → spaced (fs ++ gs) ≡ spaced fs ++ spaced gs
+spaced-append [] gs = rw spaced-none
+spaced-append (f ∷ fs) gs = rw (spaced-more, spaced-more, append-assoc, spaced-append fs gs)
+
+pub joined-more : (f : List ℕ) (fs : List (List ℕ)) → joined (f ∷ fs) ≡ f ++ spaced fs
+unfolding joined
+joined-more f [] = rw (spaced-none, append-nil)
+joined-more f (g ∷ fs) = rw spaced-more (ap (λ (t : List ℕ). f ++ (32 ∷ t)) (joined-more g fs))
+
+-- The row is what is written.
+
+pub row-cut : (v k : ℕ) (r : Record) → rowText v k r ≡ joined (headTexts v k r) ++ spaced (frameTexts r)
+unfolding rowTexts
+row-cut v k r =
+    joined-more _ _
+    ∙ ap (λ (t : List ℕ). numberText k ++ t) (spaced-append (offsetText v (r .offset) ∷ busTexts v (r .bus)) (frameTexts r))
+    ∙ rw (joined-more, append-assoc)
+
+pub head-cut : (v k : ℕ) (r : Record)
+    → joined (headTexts v k r) ≡ numberText k ++ ((32 ∷ offsetText v (r .offset)) ++ spaced (busTexts v (r .bus)))
+head-cut v k r = rw (joined-more, spaced-more)
+
+pub frame-cut : (r : Record)
+    → spaced (frameTexts r) ≡ (32 ∷ markText (r .kind)) ++ ((32 ∷ idText r) ++ (32 ∷ (48 + r .len) ∷ spaced (dataTexts r)))
+frame-cut r = rw (spaced-more, spaced-more, spaced-more)
+
+-- Its length is the sum of the parts'.
+
+pub row-length : (v k : ℕ) (r : Record) → length (rowText v k r) ≡ length (joined (headTexts v k r)) + length (spaced (frameTexts r))
+row-length v k r = ap length (row-cut v k r) ∙ length-append (joined (headTexts v k r)) (spaced (frameTexts r))
+
+pub head-length : (v k : ℕ) (r : Record)
+    → length (joined (headTexts v k r)) ≡ length (numberText k) + (length (32 ∷ offsetText v (r .offset)) + length (spaced (busTexts v (r .bus))))
+head-length v k r =
+    let e = length-append (32 ∷ offsetText v (r .offset)) (spaced (busTexts v (r .bus))) in
+    rw (head-cut, length-append) (ap (λ (n : ℕ). length (numberText k) + n) e)
+
+pub frame-length : (r : Record)
+    → length (spaced (frameTexts r)) ≡ length (32 ∷ markText (r .kind)) + length (32 ∷ idText r) + 2 + length (spaced (dataTexts r))
+frame-length r = rw (frame-cut, length-append, length-append) (omega arith)

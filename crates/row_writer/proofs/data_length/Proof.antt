@@ -1,0 +1,18 @@
+-- `row_writer::data_length` meets its contract.
+use Prim.Native.Nat.{_^_}
+use mathlib.Core.Path.{ap}
+use native.Mathlib.Omega.{arith}
+use borrow.Author.Needs.{needs}
+use lib.ListN.{length}
+use Rattle.row_writer.specs.Parts.{spaced}
+use Rattle.row_writer.proofs.Columns.{remote-data, frame-data}
+use Rattle.row_writer.proofs.Bytes.{length-bytes}
+use Rattle.row_writer.proofs.data_length.Statement.{statement}
+use Rattle.row_writer.proofs.data_length.Tie as tie
+
+pub data-length-spec : {M : Type 1} → statement M
+data-length-spec =
+    tie.close (tie.spec
+    (λ c. omega (arith, ap length (remote-data (c .before .before .args .r) (c .if1 .taken))))
+    (λ c. search needs)
+    (λ c. let r = c .before .before .args .r in omega (arith, ap (λ fs. length (spaced fs)) (frame-data r (c .if1 .left)), length-bytes (256 ^ 7) (r .len) (r .«data»))))

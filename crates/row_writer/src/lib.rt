@@ -1,0 +1,244 @@
+// The row writer: a record as a row of a trace, as the house spells it, and how many bytes that is.
+use base::put_byte;
+use digits::Letters;
+use digits::decimal_length;
+use digits::put_decimal;
+use digits::put_hex;
+use digits::put_padded;
+use record::Record;
+ghost use mathlib.Core.Path.{_≡_};
+ghost use mathlib.Core.List.{[], _∷_, _++_};
+ghost use Prim.Native.Nat.{_+_, _*_, _^_, _≤_, _<_};
+ghost use lib.ListN.{length};
+ghost use Rattle.base.specs.Wrote.{Wrote};
+ghost use Rattle.digits.specs.House.{glyphOf, hexText};
+ghost use Rattle.record.specs.Record.{WellFormed};
+ghost use Rattle.row.specs.Answer.{Carries};
+ghost use Rattle.row.specs.House.{joined, numberText, offsetText, busTexts, markText, idText, byteTexts, dataTexts, rowText};
+ghost use Rattle.row_writer.specs.Parts.{spaced, headTexts, frameTexts};
+
+// Puts three bytes.
+fn put_three(out: &mut [u8], at: usize, a: u8, b: u8, c: u8) -> usize
+    requires { ⌜ at + 3 ≤ length (now out) ⌝ }
+    ensures { λ r. ⌜ Wrote (now (out .entry)) (now (out .exit)) at r (a ∷ b ∷ c ∷ []) ⌝ }
+{
+    let p = put_byte(out, at, a);
+    let q = put_byte(out, p, b);
+    put_byte(out, q, c)
+}
+
+// Row number and `)`.
+fn put_number(out: &mut [u8], at: usize, k: u64) -> usize
+    requires { ⌜ at + length (numberText k) ≤ length (now out) ⌝ }
+    ensures { λ r. ⌜ Wrote (now (out .entry)) (now (out .exit)) at r (numberText k) ⌝ }
+{
+    let p = put_decimal(out, at, k);
+    put_byte(out, p, 41)
+}
+
+fn number_length(k: u64) -> usize
+    ensures { λ r. ⌜ (r ≡ length (numberText k)) × (r ≤ 21) ⌝ }
+{
+    decimal_length(k) + 1
+}
+
+// Offset in milliseconds: one digit behind the point in version 1.1, three in version 1.2.
+fn put_offset(out: &mut [u8], at: usize, version: u64, offset: u64) -> usize
+    requires { ⌜ at + length (32 ∷ offsetText version offset) ≤ length (now out) ⌝ }
+    ensures { λ r. ⌜ Wrote (now (out .entry)) (now (out .exit)) at r (32 ∷ offsetText version offset) ⌝ }
+{
+    let p = put_byte(out, at, 32);
+    let q = put_decimal(out, p, offset / 1000);
+    let s = put_byte(out, q, 46);
+    if version == 11 {
+        return put_padded(out, s, 1, offset % 1000 / 100);
+    }
+    put_padded(out, s, 3, offset % 1000)
+}
+
+fn offset_length(version: u64, offset: u64) -> usize
+    ensures { λ r. ⌜ (r ≡ length (32 ∷ offsetText version offset)) × (r ≤ 25) ⌝ }
+{
+    let whole = decimal_length(offset / 1000);
+    if version == 11 {
+        return whole + 3;
+    }
+    whole + 5
+}
+
+// The bus, in version 1.2 only.
+fn put_bus(out: &mut [u8], at: usize, version: u64, bus: u64) -> usize
+    requires { ⌜ at + length (spaced (busTexts version bus)) ≤ length (now out) ⌝ }
+    ensures { λ r. ⌜ Wrote (now (out .entry)) (now (out .exit)) at r (spaced (busTexts version bus)) ⌝ }
+{
+    if version != 11 {
+        let p = put_byte(out, at, 32);
+        return put_decimal(out, p, bus);
+    }
+    at
+}
+
+fn bus_length(version: u64, bus: u64) -> usize
+    ensures { λ r. ⌜ (r ≡ length (spaced (busTexts version bus))) × (r ≤ 21) ⌝ }
+{
+    if version == 11 {
+        return 0;
+    }
+    decimal_length(bus) + 1
+}
+
+// `Rx`, `Tx`, `Warng` or `Error`.
+fn put_mark(out: &mut [u8], at: usize, kind: u64) -> usize
+    requires { ⌜ (kind ≤ 5) × (at + length (32 ∷ markText kind) ≤ length (now out)) ⌝ }
+    ensures { λ r. ⌜ Wrote (now (out .entry)) (now (out .exit)) at r (32 ∷ markText kind) ⌝ }
+{
+    match kind {
+        0 | 2 => put_three(out, at, 32, 82, 120),
+        1 | 3 => put_three(out, at, 32, 84, 120),
+        4 => {
+            let p = put_three(out, at, 32, 87, 97);
+            put_three(out, p, 114, 110, 103)
+        }
+        _ => {
+            let q = put_three(out, at, 32, 69, 114);
+            put_three(out, q, 114, 111, 114)
+        }
+    }
+}
+
+fn mark_length(kind: u64) -> usize
+    requires { ⌜ kind ≤ 5 ⌝ }
+    ensures { λ r. ⌜ (r ≡ length (32 ∷ markText kind)) × (r ≤ 6) ⌝ }
+{
+    if kind < 4 {
+        return 3;
+    }
+    6
+}
+
+// Eight F for a warning; else eight digits if extended, and four if not.
+fn put_id(out: &mut [u8], at: usize, r: Record) -> usize
+    requires { ⌜ (r .extended ≤ 1) × (at + length (32 ∷ idText r) ≤ length (now out)) ⌝ }
+    ensures { λ e. ⌜ Wrote (now (out .entry)) (now (out .exit)) at e (32 ∷ idText r) ⌝ }
+{
+    let p = put_byte(out, at, 32);
+    if r.kind == 4 {
+        return put_hex(out, p, 8, 0xFFFFFFFF, Letters::Capital);
+    }
+    if r.extended == 1 {
+        return put_hex(out, p, 8, r.id, Letters::Capital);
+    }
+    put_hex(out, p, 4, r.id, Letters::Capital)
+}
+
+fn id_length(r: Record) -> usize
+    requires { ⌜ r .extended ≤ 1 ⌝ }
+    ensures { λ n. ⌜ (n ≡ length (32 ∷ idText r)) × (n ≤ 9) ⌝ }
+{
+    if r.kind == 4 {
+        return 9;
+    }
+    if r.extended == 1 {
+        return 9;
+    }
+    5
+}
+
+// The byte of a hexadecimal digit, in capitals.
+fn capital_digit(d: u64) -> u8
+    requires { ⌜ d < 16 ⌝ }
+    ensures { λ r. ⌜ r ≡ glyphOf Letters.Capital d ⌝ }
+{
+    if d < 10 {
+        return 48 + d as u8;
+    }
+    65 + (d - 10) as u8
+}
+
+// One data byte. Both digits are put at once: the calls of `put_hex` for each would double the time that a row takes.
+fn put_data_byte(out: &mut [u8], at: usize, b: u64) -> usize
+    requires { ⌜ (b < 256) × (at + 3 ≤ length (now out)) ⌝ }
+    ensures { λ r. ⌜ Wrote (now (out .entry)) (now (out .exit)) at r (32 ∷ hexText Letters.Capital 2 b) ⌝ }
+{
+    let high = capital_digit(b / 16);
+    let low = capital_digit(b % 16);
+    put_three(out, at, 32, high, low)
+}
+
+// The first n of eight data bytes.
+fn put_bytes(out: &mut [u8], at: usize, n: u64, word: u64) -> usize
+    requires { ⌜ (n ≤ 8) × (at + 3 * n ≤ length (now out)) ⌝ }
+    ensures { λ r. ⌜ Wrote (now (out .entry)) (now (out .exit)) at r (spaced (byteTexts (256 ^ 7) n word)) ⌝ }
+{
+    let mut p = at;
+    let mut i: u64 = 1;
+    while i <= n {
+        p = put_data_byte(out, p, (word >> (64 - 8 * i)) % 256);
+        i += 1;
+    }
+    p
+}
+
+// `RTR` for a remote frame, else the bytes.
+fn put_data(out: &mut [u8], at: usize, r: Record) -> usize
+    requires { ⌜ (r .len ≤ 8) × (at + length (spaced (dataTexts r)) ≤ length (now out)) ⌝ }
+    ensures { λ e. ⌜ Wrote (now (out .entry)) (now (out .exit)) at e (spaced (dataTexts r)) ⌝ }
+{
+    if r.kind / 2 == 1 {
+        let p = put_byte(out, at, 32);
+        return put_three(out, p, 82, 84, 82);
+    }
+    put_bytes(out, at, r.len, r.data)
+}
+
+fn data_length(r: Record) -> usize
+    requires { ⌜ r .len ≤ 8 ⌝ }
+    ensures { λ n. ⌜ (n ≡ length (spaced (dataTexts r))) × (n ≤ 24) ⌝ }
+{
+    if r.kind / 2 == 1 {
+        return 4;
+    }
+    3 * r.len as usize
+}
+
+// The fields before the mark.
+fn put_head(out: &mut [u8], at: usize, version: u64, k: u64, r: Record) -> usize
+    requires { ⌜ at + length (joined (headTexts version k r)) ≤ length (now out) ⌝ }
+    ensures { λ e. ⌜ Wrote (now (out .entry)) (now (out .exit)) at e (joined (headTexts version k r)) ⌝ }
+{
+    let p = put_number(out, at, k);
+    let q = put_offset(out, p, version, r.offset);
+    put_bus(out, q, version, r.bus)
+}
+
+// The fields from the mark on, each behind one blank.
+fn put_frame(out: &mut [u8], at: usize, r: Record) -> usize
+    requires { ⌜ WellFormed r × (at + length (spaced (frameTexts r)) ≤ length (now out)) ⌝ }
+    ensures { λ e. ⌜ Wrote (now (out .entry)) (now (out .exit)) at e (spaced (frameTexts r)) ⌝ }
+{
+    let p = put_mark(out, at, r.kind);
+    let q = put_id(out, p, r);
+    let s = put_byte(out, q, 32);
+    let t = put_byte(out, s, 48 + r.len as u8);
+    put_data(out, t, r)
+}
+
+// How many bytes the row with number k and record r in a version is.
+pub fn row_length(version: u64, k: u64, r: Record) -> usize
+    requires { ⌜ WellFormed r × Carries r version × (1 ≤ k) × (k ≤ 999999) ⌝ }
+    ensures { λ n. ⌜ n ≡ length (rowText version k r) ⌝ }
+{
+    let head = number_length(k) + offset_length(version, r.offset) + bus_length(version, r.bus);
+    let frame = mark_length(r.kind) + id_length(r) + 2 + data_length(r);
+    head + frame
+}
+
+// Puts the row with number k and record r in a version at a position, and gives the position after it.
+pub fn put_row(out: &mut [u8], at: usize, version: u64, k: u64, r: Record) -> usize
+    requires { ⌜ WellFormed r × Carries r version × (1 ≤ k) × (k ≤ 999999) ⌝ }
+    requires { ⌜ at + length (rowText version k r) ≤ length (now out) ⌝ }
+    ensures { λ e. ⌜ Wrote (now (out .entry)) (now (out .exit)) at e (rowText version k r) ⌝ }
+{
+    let p = put_head(out, at, version, k, r);
+    put_frame(out, p, r)
+}
