@@ -1,0 +1,99 @@
+-- With which lines some acceptable text begins: none; a version line; lines that spell a trace.
+use Prim.Native.Nat.{ℕ, _+_, _≤_}
+use mathlib.Core.Path.{_≡_, refl, ap, _∙_}
+use mathlib.Core.List.{List, [], _∷_, _++_, append-assoc, append-nil}
+use native.Mathlib.Omega.{arith}
+use lib.ListN.{length, length-append}
+use Rattle.record.specs.declared.Record.{Record}
+use Rattle.row.specs.Answer.{lineLimit}
+use Rattle.lines.specs.Lines.{one, FirstLine, VersionLine}
+use Rattle.trace.specs.Trace.{sizeLimit, Trace, Line, Body, over, comment, row, Spells, Begins}
+use Rattle.trace.specs.Promise.{Lines, none, line}
+use Rattle.lines.proofs.Theorems.{first-one, version-line-text, version-line-inside, startLine, start-line-text, start-line-inside}
+use Rattle.trace.proofs.Apart.{no-line}
+use Rattle.trace.proofs.Cuts.{endedLine, first-more, line-more, spells-cut}
+
+-- `;$FILEVERSION=1.1`
+abbrev versionLine : List ℕ
+versionLine = 59 ∷ 36 ∷ 70 ∷ 73 ∷ 76 ∷ 69 ∷ 86 ∷ 69 ∷ 82 ∷ 83 ∷ 73 ∷ 79 ∷ 78 ∷ 61 ∷ 49 ∷ 46 ∷ 49 ∷ []
+
+-- A version line and a start line are a trace without rows.
+header : {v : ℕ} {first rest text : List ℕ} → Line first rest text → VersionLine v first → rest ≡ endedLine startLine
+    → Spells (record { version = v; start = 0; records = [] }) text
+header l w e = record {
+  first = _;
+  after-first = _;
+  one = l;
+  version = w;
+  second = startLine;
+  after-second = [];
+  two = record { first = record { inside = start-line-inside; ended = e }; short = omega arith };
+  start = start-line-text;
+  body = over;
+}
+
+-- Some acceptable text begins with no line,
+pub begins-none : Begins []
+begins-none = record {
+  rest = endedLine versionLine ++ endedLine startLine;
+  trace = _;
+  spelled = header (record { first = record { inside = version-line-inside (one refl); ended = refl }; short = omega arith }) (version-line-text (one refl)) refl;
+  size = omega arith;
+}
+
+-- with a version line,
+pub begins-version : {v : ℕ} {first front : List ℕ} → Line first [] front → VersionLine v first → Begins front
+begins-version {first = first} {front = front} l w = record {
+  rest = endedLine startLine;
+  trace = _;
+  spelled = header (line-more (endedLine startLine) l) w refl;
+  size =
+      let h = l .short in
+      let e : length front ≡ length first + 2 = ap length (l .first .ended) ∙ length-append first (13 ∷ 10 ∷ []) in
+      rw length-append (omega arith);
+}
+
+-- and with what spells a trace.
+pub begins-spelled : {t : Trace} {front : List ℕ} → Spells t front → length front ≤ sizeLimit → Begins front
+begins-spelled {t = t} a h = record { rest = []; trace = t; spelled = rw append-nil a; size = rw append-nil h }
+
+-- The lines with which a text that spells a trace begins are such lines.
+pub begins-cut : {n : ℕ} {t : Trace} {front : List ℕ} (rest : List ℕ) → Lines n front → Spells t (front ++ rest)
+    → length front ≤ sizeLimit → Begins front
+begins-cut rest none a h = begins-none
+begins-cut rest (line f none) a h =
+    let x = first-one (a .one .first) (first-more rest f) in
+    begins-version (record { first = f; short = rw (x .0) at (a .one .short) }) (rw (x .0) at (a .version))
+begins-cut rest (line {n = n} f (line {n = m} g ls)) a h = begins-spelled (spells-cut rest (omega arith) (line f (line g ls)) a .first) h
+
+-- Fewer lines begin what more do.
+pub begins-fewer : (front more : List ℕ) → Begins (front ++ more) → Begins front
+begins-fewer front more b = record {
+  rest = more ++ b .rest;
+  trace = b .trace;
+  spelled = rw append-assoc at (b .spelled);
+  size = rw append-assoc at (b .size);
+}
+
+-- Every line of what spells a trace is short.
+pub data Shorts : List ℕ → Type 0 where
+  no-more : Shorts []
+  one-more : {l rest text : List ℕ} → Line l rest text → Shorts rest → Shorts text
+
+body-shorts : {v k : ℕ} {rs : List Record} {t : List ℕ} → Body v k rs t → Shorts t
+body-shorts over = no-more
+body-shorts (comment l c h) = one-more l (body-shorts h)
+body-shorts (row l w h) = one-more l (body-shorts h)
+
+pub spells-shorts : {t : Trace} {text : List ℕ} → Spells t text → Shorts text
+spells-shorts a = one-more (a .one) (one-more (a .two) (body-shorts (a .body)))
+
+-- So is every line behind some lines.
+pub shorts-after : {n : ℕ} {front text : List ℕ} (rest : List ℕ) → Lines n front → text ≡ front ++ rest → Shorts text → Shorts rest
+shorts-after rest none e s = rw e at s
+shorts-after rest (line f ls) e no-more = absurd (no-line (rw (← e) at (first-more rest f)))
+shorts-after rest (line f ls) e (one-more l s) = shorts-after rest ls (first-one (l .first) (rw (← e) at (first-more rest f)) .1) s
+
+pub shorts-first : {l rest text : List ℕ} → FirstLine l rest text → Shorts text → length l ≤ lineLimit
+shorts-first f no-more = absurd (no-line f)
+shorts-first f (one-more l s) = rw (first-one (l .first) f .0) at (l .short)

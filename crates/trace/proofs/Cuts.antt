@@ -1,0 +1,149 @@
+-- Texts cut after a line, and texts put together: what stands before the cut spells a trace of its own.
+use Prim.Native.Nat.{ℕ, suc, _+_, _≤_}
+use mathlib.Core.Path.{_≡_, refl, ap, sym, _∙_}
+use mathlib.Core.List.{List, [], _∷_, _++_, append-assoc}
+use native.Mathlib.Nat.{add-zero}
+use native.Mathlib.Omega.{arith}
+use lib.ListN.{length}
+use Rattle.record.specs.declared.Record.{Record}
+use Rattle.fields.specs.Runs.{All}
+use Rattle.lines.specs.Lines.{Inside, FirstLine}
+use Rattle.trace.specs.Trace.{Trace, Line, Body, over, comment, row, Spells}
+use Rattle.trace.specs.Promise.{Lines, none, line}
+use Rattle.lines.proofs.Theorems.{first-one}
+use Rattle.trace.proofs.Apart.{no-line}
+
+-- A line with its end.
+abbrev pub endedLine : List ℕ → List ℕ
+endedLine l = l ++ (13 ∷ 10 ∷ [])
+
+-- The same first line, with more text behind.
+pub first-more : {l r t : List ℕ} (x : List ℕ) → FirstLine l r t → FirstLine l (r ++ x) (t ++ x)
+first-more {l} {r} x f = record { inside = f .inside; ended = ap (λ (s : List ℕ). s ++ x) (f .ended) ∙ append-assoc l (13 ∷ 10 ∷ r) x }
+
+pub line-more : {l r t : List ℕ} (x : List ℕ) → Line l r t → Line l (r ++ x) (t ++ x)
+line-more x f = record { first = first-more x (f .first); short = f .short }
+
+-- A line and its end in front of a text.
+pub first-there : {l : List ℕ} (x : List ℕ) → All Inside l → FirstLine l x (endedLine l ++ x)
+first-there {l} x a = record { inside = a; ended = append-assoc l (13 ∷ 10 ∷ []) x }
+
+pub first-alone : {l : List ℕ} → All Inside l → FirstLine l [] (endedLine l)
+first-alone a = record { inside = a; ended = refl }
+
+-- A text is its first line, ended, and what stands behind it.
+pub first-whole : {l r t : List ℕ} → FirstLine l r t → t ≡ endedLine l ++ r
+first-whole {l} {r} f = f .ended ∙ sym (append-assoc l (13 ∷ 10 ∷ []) r)
+
+-- One line of a text, alone.
+pub lines-alone : {l : List ℕ} → All Inside l → Lines 1 (endedLine l)
+lines-alone a = line {n = 0} (first-alone a) none
+
+-- Lines behind lines are lines.
+pub lines-append : {n m : ℕ} {a b : List ℕ} → Lines n a → Lines m b → Lines (n + m) (a ++ b)
+lines-append {m = m} none g =
+    let e : 0 + m ≡ m = omega arith in
+    rw e g
+lines-append {m = m} {b = b} (line {n = n} f h) g =
+    let e : n + 1 + m ≡ n + m + 1 = omega arith in
+    rw e (line (first-more b f) (lines-append h g))
+
+-- The rows of a text, cut after some lines.
+pub record Cut (v k : ℕ) (rs : List Record) (front rest : List ℕ) : Type 0 where
+  pub before : List Record
+  pub after : List Record
+  pub whole : rs ≡ before ++ after
+  pub first : Body v k before front
+  pub second : Body v (k + length before) after rest
+
+pub body-cut : {v k n : ℕ} {rs : List Record} {front t : List ℕ} (rest : List ℕ) → Lines n front → t ≡ front ++ rest → Body v k rs t
+    → Cut v k rs front rest
+body-cut {v} {k} {rs = rs} rest none e h =
+    record { before = []; after = rs; whole = refl; first = over; second = rw add-zero (rw e at h) }
+body-cut rest (line f ls) e over = absurd (no-line (rw (← e) at (first-more rest f)))
+body-cut rest (line f ls) e (comment l c h) =
+    let x = first-one (l .first) (rw (← e) at (first-more rest f)) in
+    let y = body-cut rest ls (x .1) h in
+    record {
+      before = y .before;
+      after = y .after;
+      whole = y .whole;
+      first = comment (record { first = f; short = rw (x .0) at (l .short) }) (rw (x .0) at c) (y .first);
+      second = y .second;
+    }
+body-cut {v} {k} rest (line f ls) e (row {r = r} l w h) =
+    let x = first-one (l .first) (rw (← e) at (first-more rest f)) in
+    let y = body-cut rest ls (x .1) h in
+    let n : k + 1 + length (y .before) ≡ k + suc (length (y .before)) = omega arith in
+    record {
+      before = r ∷ y .before;
+      after = y .after;
+      whole = cc (y .whole);
+      first = row (record { first = f; short = rw (x .0) at (l .short) }) (rw (x .0) at w) (y .first);
+      second = rw n at (y .second);
+    }
+
+-- Rows behind rows.
+pub body-append : {v k : ℕ} {rs qs : List Record} {front rest : List ℕ} → Body v k rs front → Body v (k + length rs) qs rest
+    → Body v k (rs ++ qs) (front ++ rest)
+body-append over g = rw add-zero at g
+body-append {rest = rest} (comment l c h) g = comment (line-more rest l) c (body-append h g)
+body-append {k = k} {rest = rest} (row {rs = rs} l w h) g =
+    let n : k + suc (length rs) ≡ k + 1 + length rs = omega arith in
+    row (line-more rest l) w (body-append h (rw n at g))
+
+-- The trace with these records.
+abbrev pub withRecords : Trace → List Record → Trace
+withRecords t rs = record { version = t .version; start = t .start; records = rs }
+
+-- A text that spells a trace, and more rows behind it.
+pub spells-append : {t : Trace} {bs : List Record} {front rest : List ℕ} → Spells t front
+    → Body (t .version) (length (t .records) + 1) bs rest → Spells (withRecords t (t .records ++ bs)) (front ++ rest)
+spells-append {t} {rest = rest} a g =
+    let n : length (t .records) + 1 ≡ 1 + length (t .records) = omega arith in
+    record {
+      first = a .first;
+      after-first = a .after-first ++ rest;
+      one = line-more rest (a .one);
+      version = a .version;
+      second = a .second;
+      after-second = a .after-second ++ rest;
+      two = line-more rest (a .two);
+      start = a .start;
+      body = body-append (a .body) (rw n at g);
+    }
+
+-- A text that spells a trace, cut after two lines or more.
+pub record CutTrace (t : Trace) (front rest : List ℕ) : Type 0 where
+  pub before : List Record
+  pub after : List Record
+  pub whole : t .records ≡ before ++ after
+  pub first : Spells (withRecords t before) front
+  pub second : Body (t .version) (length before + 1) after rest
+
+pub spells-cut : {n : ℕ} {t : Trace} {front : List ℕ} (rest : List ℕ) → 2 ≤ n → Lines n front → Spells t (front ++ rest)
+    → CutTrace t front rest
+spells-cut rest m none a = absurd (omega arith)
+spells-cut rest m (line f none) a = absurd (omega arith)
+spells-cut {t = t} rest m (line f (line g ls)) a =
+    let x = first-one (a .one .first) (first-more rest f) in
+    let y = first-one (a .two .first) (rw (← (x .1)) at (first-more rest g)) in
+    let c = body-cut rest ls (y .1) (a .body) in
+    let n : 1 + length (c .before) ≡ length (c .before) + 1 = omega arith in
+    record {
+      before = c .before;
+      after = c .after;
+      whole = c .whole;
+      first = record {
+        first = a .first;
+        after-first = _;
+        one = record { first = rw (← (x .0)) at f; short = a .one .short };
+        version = a .version;
+        second = a .second;
+        after-second = _;
+        two = record { first = rw (← (y .0)) at g; short = a .two .short };
+        start = a .start;
+        body = c .first;
+      };
+      second = rw n at (c .second);
+    }

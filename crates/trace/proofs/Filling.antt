@@ -1,0 +1,156 @@
+-- What the second pass keeps: the records of the lines up to `at` are packed, and those of the rest are to come.
+use Prim.Native.Nat.{ℕ, suc, _+_, _*_, _-_, _≤_, _<_}
+use mathlib.Core.Path.{_≡_, refl, ap, sym, _∙_}
+use mathlib.Core.List.{List, [], _∷_, _++_, append-nil, append-assoc}
+use native.Mathlib.Omega.{arith}
+use lib.ListN.{length, take, drop, length-append, length-drop, take-append-drop, drop-of-length-le}
+use lib.Seq.{sets, sets-eq, take-at, drop-append-add, drop-drop}
+use Rattle.record.specs.declared.Record.{Record}
+use Rattle.record.specs.Bytes.{bytes}
+use Rattle.record.specs.Record.{number, WellFormed}
+use Rattle.record.proofs.Bytes.{length-bytes}
+use Rattle.row.specs.Row.{Row}
+use Rattle.row.proofs.Formed.{row-formed}
+use Rattle.row.proofs.One.{row-one}
+use Rattle.lines.specs.Lines.{FirstLine, Comment}
+use Rattle.trace.specs.Trace.{Trace, Line, Body, over, comment, row, Spells}
+use Rattle.trace.specs.Promise.{packed}
+use Rattle.trace.specs.Passes.{There, Bars, Headed, Fits, Filled}
+use Rattle.trace.specs.Passes
+use Rattle.trace.proofs.Cuts.{withRecords, spells-cut}
+use Rattle.lines.proofs.Theorems.{first-one, not-both}
+use Rattle.trace.proofs.Apart.{no-line, row-no-comment, row-no-dollar}
+use Rattle.trace.proofs.One.{one-trace}
+use Rattle.trace.proofs.Packing.{packed-more, packed-length}
+
+pub record Filling (text old out : List ℕ) (version start at o rows : ℕ) : Type 0 where
+  pub within : at ≤ length text
+  pub few : rows ≤ at
+  pub before : List Record
+  pub after : List Record
+  pub spelled : Spells (record { version = version; start = start; records = before ++ after }) text
+  pub rest : Body version (rows + 1) after (drop at text)
+  pub counted : rows ≡ length before
+  pub room : o + 20 * length after ≤ length old
+  pub place : o ≡ 20 * length before
+  pub stored : out ≡ packed before ++ drop o old
+
+pub filling : {text old : List ℕ} {version start at : ℕ} → Headed text at version start → Fits text old version start → Filling text old old version start at 0 0
+unfolding packed
+filling {text} {old} {version} {start} {at} h f =
+    let c = spells-cut (drop at text) (omega arith) (h .lines) (rw (← take-append-drop at text) at (f .spelled)) in
+    let z : c .before ≡ [] = ap (λ (t : Trace). t .records) (one-trace (c .first) (h .spelled)) in
+    let w : f .records ≡ c .after = c .whole ∙ ap (λ (x : List Record). x ++ c .after) z in
+    record {
+      within = h .within;
+      few = omega arith;
+      before = [];
+      after = c .after;
+      spelled = rw w at (f .spelled);
+      rest = rw z at (c .second);
+      counted = refl;
+      room = let m = rw w at (f .room) in omega arith;
+      place = refl;
+      stored = refl;
+    }
+
+-- The next line of the rows to come.
+
+head-row : {v k : ℕ} {rs : List Record} {r : Record} {line rest s : List ℕ} → Body v k rs s → FirstLine line rest s → Row v k r line
+    → (qs : List Record) × (rs ≡ r ∷ qs) × Body v (k + 1) qs rest
+head-row over f w = absurd (no-line f)
+head-row (comment l c b) f w = absurd (row-no-comment w (rw (first-one (l .first) f .0) at c))
+head-row {r = r} (row {rs = qs} l x b) f w =
+    let e = first-one (l .first) f in
+    (qs, ap (λ (y : Record). y ∷ qs) (row-one (rw (e .0) at x) w), rw (e .1) at b)
+
+head-note : {v k : ℕ} {rs : List Record} {line rest s : List ℕ} → Body v k rs s → FirstLine line rest s → Comment line → Body v k rs rest
+head-note over f w = absurd (no-line f)
+head-note (comment l c b) f w = rw (first-one (l .first) f .1) at b
+head-note (row l x b) f w = absurd (row-no-comment x (rw (← (first-one (l .first) f .0)) at w))
+
+no-bars : {v k n : ℕ} {rs : List Record} {s : List ℕ} → Body v k rs s → 0 < length s → Bars v k s n → ⊥
+no-bars over h b = omega arith
+no-bars (comment l c d) h (Passes.unended f) = f _ _ (l .first)
+no-bars (comment l c d) h (Passes.long f x) = let a = l .short in omega (arith, ap length (first-one (l .first) f .0))
+no-bars (comment l c d) h (Passes.dollar m x) = not-both (rw (first-one (l .first) (m .first) .0) at c) x
+no-bars (comment l c d) h (Passes.other m x y z) = x (rw (first-one (l .first) (m .first) .0) at c)
+no-bars (row l w d) h (Passes.unended f) = f _ _ (l .first)
+no-bars (row l w d) h (Passes.long f x) = let a = l .short in omega (arith, ap length (first-one (l .first) f .0))
+no-bars (row l w d) h (Passes.dollar m x) = row-no-dollar (rw (first-one (l .first) (m .first) .0) at w) x
+no-bars (row l w d) h (Passes.other m x y z) = z _ (rw (first-one (l .first) (m .first) .0) at w)
+
+-- A record's bytes go behind those before it.
+behind : (p b old out : List ℕ) (o n : ℕ) → length p ≡ o → length b ≡ n → o + n ≤ length old → out ≡ p ++ drop o old → sets out o b ≡ (p ++ b) ++ drop (o + n) old
+behind p b old out o n e k h q =
+    let l : length out ≡ length old = ap length q ∙ length-append p (drop o old) ∙ (omega (arith, length-drop o old)) in
+    let t : take o out ≡ p = ap (take o) q ∙ take-at p (drop o old) o e in
+    let d : drop (o + n) out ≡ drop (o + n) old = rw (q, ← e, drop-append-add, drop-drop) in
+    sets-eq b out o (omega arith) ∙ rw (t, k, d)
+
+module _ {text old out : List ℕ} {version start at o rows : ℕ} (f : Filling text old out version start at o rows) where
+  pub out-length : length out ≡ length old
+  out-length =
+      let p = f .place in
+      let m = f .room in
+      omega (arith, ap length (f .stored) ∙ length-append (packed (f .before)) (drop o old), packed-length (f .before), length-drop o old)
+
+  pub stored-note : {next : ℕ} (line : List ℕ) → There text at next line → Comment line → Filling text old out version start next o rows
+  stored-note line t c = record {
+    within = t .within;
+    few = let a = f .few in let b = t .later in omega arith;
+    before = f .before;
+    after = f .after;
+    spelled = f .spelled;
+    rest = head-note (f .rest) (t .is .first) c;
+    counted = f .counted;
+    room = f .room;
+    place = f .place;
+    stored = f .stored;
+  }
+
+  pub row-room : {next : ℕ} (r : Record) (line : List ℕ) → There text at next line → Row version (rows + 1) r line → (o + 20 ≤ length out) × WellFormed r
+  row-room r line t w =
+      let x = head-row (f .rest) (t .is .first) w in
+      let m = f .room in
+      (omega (arith, out-length, ap length (x .1)), row-formed w)
+
+  pub stored-row : {next : ℕ} (r : Record) (line new : List ℕ) → There text at next line → Row version (rows + 1) r line
+      → new ≡ sets out o (bytes 20 (number r)) → Filling text old new version start next (o + 20) (rows + 1)
+  stored-row r line new t w e =
+      let x = head-row (f .rest) (t .is .first) w in
+      let m = f .room in
+      let n = f .counted in
+      let l = length-append (f .before) (r ∷ []) in
+      record {
+        within = t .within;
+        few = let a = f .few in let b = t .later in omega arith;
+        before = f .before ++ (r ∷ []);
+        after = x .0;
+        spelled = rw append-assoc (rw (x .1) at (f .spelled));
+        rest = x .2;
+        counted = omega arith;
+        room = omega (arith, ap length (x .1));
+        place = let p = f .place in omega arith;
+        stored =
+            let p : length (packed (f .before)) ≡ o = packed-length (f .before) ∙ sym (f .place) in
+            e ∙ behind (packed (f .before)) (bytes 20 (number r)) old out o 20 p (length-bytes 20 (number r)) (omega (arith, ap length (x .1))) (f .stored)
+            ∙ ap (λ (y : List ℕ). y ++ drop (o + 20) old) (sym (packed-more (f .before) r));
+      }
+
+  pub never-bad : {n : ℕ} → at < length text → Bars version (rows + 1) (drop at text) n → ⊥
+  never-bad h b = no-bars (f .rest) (omega (arith, length-drop at text)) b
+
+  done-body : {k : ℕ} {rs : List Record} {s : List ℕ} → Body version k rs s → s ≡ [] → rs ≡ []
+  done-body over e = refl
+  done-body (comment l c b) e = absurd (no-line (rw e at (l .first)))
+  done-body (row l w b) e = absurd (no-line (rw e at (l .first)))
+
+  pub filled : length text ≤ at → Filled text old out
+  filled h = record {
+    bytes = λ t s.
+        let z : f .after ≡ [] = done-body (f .rest) (drop-of-length-le text h) in
+        let q = ap (λ (u : Trace). u .records) (one-trace s (f .spelled)) in
+        let e : t .records ≡ f .before = q ∙ ap (λ (y : List Record). f .before ++ y) z ∙ append-nil (f .before) in
+        rw (e, ← (f .place)) (f .stored);
+  }

@@ -1,0 +1,12 @@
+pub mod Answers
+pub mod Apart
+pub mod Beginnings
+pub mod Cuts
+pub mod Fails
+pub mod Filling
+pub mod Judging
+pub mod One
+pub mod Opening
+pub mod Packing
+pub mod Pieces
+pub mod Place

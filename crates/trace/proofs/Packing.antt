@@ -1,0 +1,100 @@
+-- Laws on the records of a trace: their packed bytes, and the first step back.
+use Prim.Native.Nat.{ℕ, suc, _+_, _*_, _≤_, _<_}
+use mathlib.Core.Path.{_≡_, refl, sym, _∙_}
+use mathlib.Core.Bool.{Bool, true, false}
+use mathlib.Core.List.{List, [], _∷_, _++_, append-assoc, append-nil}
+use native.Mathlib.Omega.{arith}
+use lib.Dec.{ltb}
+use borrow.Author.Tests.{lt-ltb, le-ltb}
+use lib.ListN.{length, length-append}
+use Rattle.record.specs.declared.Record.{Record}
+use Rattle.record.specs.Bytes.{bytes}
+use Rattle.record.specs.Record.{number}
+use Rattle.record.proofs.Bytes.{length-bytes}
+use Rattle.trace.specs.Promise.{packed, backFrom, stepBack}
+
+-- Packed records, one list behind the other.
+pub packed-append : (rs qs : List Record) → packed (rs ++ qs) ≡ packed rs ++ packed qs
+unfolding packed
+packed-append [] qs = refl
+packed-append (r ∷ rs) qs = rw (packed-append rs qs) (sym (append-assoc (bytes 20 (number r)) (packed rs) (packed qs)))
+
+-- One record more.
+pub packed-more : (rs : List Record) (r : Record) → packed (rs ++ (r ∷ [])) ≡ packed rs ++ bytes 20 (number r)
+unfolding packed
+packed-more rs r = packed-append rs (r ∷ []) ∙ rw append-nil
+
+-- Twenty bytes for each record.
+pub packed-length : (rs : List Record) → length (packed rs) ≡ 20 * length rs
+unfolding packed
+packed-length [] = refl
+packed-length (r ∷ rs) = rw length-append (omega (arith, length-bytes 20 (number r), packed-length rs))
+
+-- The offset of the last record, or this.
+abbrev pub lastFrom : ℕ → List Record → ℕ
+lastFrom last [] = last
+lastFrom last (r ∷ rs) = lastFrom (r .offset) rs
+
+-- The offset of the last record; 0 where there is none.
+abbrev pub lastOffset : List Record → ℕ
+lastOffset rs = lastFrom 0 rs
+
+last-from : (last : ℕ) (rs : List Record) (r : Record) → lastFrom last (rs ++ (r ∷ [])) ≡ r .offset
+last-from last [] r = refl
+last-from last (q ∷ rs) r = last-from (q .offset) rs r
+
+pub last-more : (rs : List Record) (r : Record) → lastOffset (rs ++ (r ∷ [])) ≡ r .offset
+last-more rs r = last-from 0 rs r
+
+-- One record looked at: the place is it, or what is found behind it.
+abbrev pick : Bool → ℕ → ℕ → ℕ
+pick b at behind = elim b [ true ↦ at | false ↦ behind ]
+
+keep : (b : Bool) (at x y : ℕ) → 0 < pick b at y → (0 < y → x ≡ y) → pick b at x ≡ pick b at y
+keep true at x y h i = refl
+keep false at x y h i = i h
+
+on : (b : Bool) (at x y z : ℕ) → 0 < at → pick b at y ≡ 0 → (y ≡ 0 → x ≡ z) → pick b at x ≡ z
+on true at x y z p h i = absurd (omega arith)
+on false at x y z p h i = i h
+
+-- A step back that was found stays the first.
+from-keep : (at before : ℕ) (rs qs : List Record) → 0 < backFrom at before rs → backFrom at before (rs ++ qs) ≡ backFrom at before rs
+unfolding backFrom
+from-keep at before [] qs h = absurd (omega arith)
+from-keep at before (r ∷ rs) qs h =
+    keep (ltb (r .offset) before) at (backFrom (at + 1) (r .offset) (rs ++ qs)) (backFrom (at + 1) (r .offset) rs) h
+    (from-keep (at + 1) (r .offset) rs qs)
+
+-- Where none was found, the records behind are looked at.
+from-on : (at before : ℕ) (rs qs : List Record) → 0 < at → backFrom at before rs ≡ 0
+    → backFrom at before (rs ++ qs) ≡ backFrom (at + length rs) (lastFrom before rs) qs
+unfolding backFrom
+from-on at before [] qs p h =
+    let e : at + 0 ≡ at = omega arith in
+    rw e
+from-on at before (r ∷ rs) qs p h =
+    let e : at + suc (length rs) ≡ at + 1 + length rs = omega arith in
+    rw e
+    (on (ltb (r .offset) before) at (backFrom (at + 1) (r .offset) (rs ++ qs)) (backFrom (at + 1) (r .offset) rs)
+    (backFrom (at + 1 + length rs) (lastFrom (r .offset) rs) qs) p h (from-on (at + 1) (r .offset) rs qs (omega arith)))
+
+-- One record more: a step back that was found stays,
+pub back-keep : (rs : List Record) (r : Record) → 0 < stepBack rs → stepBack (rs ++ (r ∷ [])) ≡ stepBack rs
+unfolding stepBack
+back-keep [] r h = absurd (omega arith)
+back-keep (q ∷ rs) r h = from-keep 2 (q .offset) rs (r ∷ []) h
+
+-- else it is one if its offset is below the last,
+pub back-found : (rs : List Record) (r : Record) → stepBack rs ≡ 0 → r .offset < lastOffset rs → stepBack (rs ++ (r ∷ [])) ≡ length rs + 1
+unfolding stepBack backFrom
+back-found [] r h l = absurd (omega arith)
+back-found (q ∷ rs) r h l =
+    from-on 2 (q .offset) rs (r ∷ []) (omega arith) h ∙ rw (lt-ltb (r .offset) (lastFrom (q .offset) rs) l, backFrom) (omega arith)
+
+-- and else none is found.
+pub back-none : (rs : List Record) (r : Record) → stepBack rs ≡ 0 → lastOffset rs ≤ r .offset → stepBack (rs ++ (r ∷ [])) ≡ 0
+unfolding stepBack backFrom
+back-none [] r h l = refl
+back-none (q ∷ rs) r h l =
+    from-on 2 (q .offset) rs (r ∷ []) (omega arith) h ∙ rw (le-ltb (r .offset) (lastFrom (q .offset) rs) l, backFrom)

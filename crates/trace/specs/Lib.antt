@@ -1,0 +1,3 @@
+pub mod Trace
+pub mod Promise
+pub mod Passes

@@ -1,0 +1,85 @@
+-- What `read` promises for every text and every output.
+use Prim.Native.Nat.{ℕ, zero, suc, _+_, _*_, _≤_, _<_}
+use mathlib.Core.Path.{_≡_}
+use mathlib.Core.Logic.{_≢_}
+use mathlib.Core.Bool.{true, false}
+use mathlib.Core.List.{List, [], _∷_, _++_}
+use lib.Dec.{ltb}
+use lib.ListN.{length, drop}
+use Rattle.record.specs.declared.Record.{Record}
+use Rattle.record.specs.Bytes.{bytes}
+use Rattle.record.specs.Record.{number}
+use Rattle.row.specs.Answer.{lineLimit}
+use Rattle.trace.specs.declared.Outcome.{Outcome}
+use Rattle.trace.specs.declared.Outcome.the-variants as outcome
+use Rattle.lines.specs.Lines.{FirstLine, DollarLine}
+use Rattle.trace.specs.Trace.{sizeLimit, Trace, Line, Spells, Begins}
+
+-- The records, packed one after the other.
+unfoldable pub packed : List Record → List ℕ
+packed [] = []
+packed (r ∷ rs) = bytes 20 (number r) ++ packed rs
+
+-- The position, from 1, of the first record whose offset is below its predecessor's, or 0. `at` is the position of the next.
+unfoldable pub backFrom : ℕ → ℕ → List Record → ℕ
+backFrom at before [] = 0
+backFrom at before (r ∷ rs) = elim (ltb (r .offset) before) [ true ↦ at | false ↦ backFrom (at + 1) (r .offset) rs ]
+
+unfoldable pub stepBack : List Record → ℕ
+stepBack [] = 0
+stepBack (r ∷ rs) = backFrom 2 (r .offset) rs
+
+-- Number, place, version, start, rows and first step back for each answer.
+abbrev pub readNumbers : Outcome → List ℕ
+readNumbers (outcome.Done v s n b) = 0 ∷ 0 ∷ v ∷ s ∷ n ∷ b ∷ []
+readNumbers (outcome.Refused n p) = n ∷ p ∷ 0 ∷ 0 ∷ 0 ∷ 0 ∷ []
+
+-- The text is n ended lines.
+pub data Lines : ℕ → List ℕ → Type 0 where
+  none : Lines 0 []
+  line : {n : ℕ} {l rest text : List ℕ} → FirstLine l rest text → Lines n rest → Lines (n + 1) text
+
+-- The text is n ended lines, `front`, with which some acceptable text begins, and then rest.
+pub record Reached (n : ℕ) (rest text : List ℕ) : Type 0 where
+  pub front : List ℕ
+  pub whole : text ≡ front ++ rest
+  pub lines : Lines n front
+  pub begins : Begins front
+
+-- A line after those with which no acceptable text begins.
+pub record Barred (n : ℕ) (line text : List ℕ) : Type 0 where
+  pub rest : List ℕ
+  pub reached : Reached n rest text
+  pub after : List ℕ
+  pub there : Line line after rest
+  pub never : Begins (reached .front ++ (line ++ (13 ∷ 10 ∷ []))) → ⊥
+
+-- The text is refused with this number at this line: the lines before it begin some acceptable text, and
+-- 2, what is left is not empty and starts with no ended line; 3, the line has more than 250 bytes; 4 and 5, line 1 or 2 is absent, or no
+-- acceptable text begins so; 6, from line 3 on, a comment with `$` first; 7, from line 3 on, any other line with which none begins.
+pub data Refused (text : List ℕ) : ℕ → ℕ → Type 0 where
+  unended : {n : ℕ} {rest : List ℕ} → Reached n rest text → rest ≢ [] → ((line after : List ℕ) → FirstLine line after rest → ⊥)
+      → Refused text 2 (n + 1)
+  long : {n : ℕ} {rest line after : List ℕ} → Reached n rest text → FirstLine line after rest → lineLimit < length line
+      → Refused text 3 (n + 1)
+  no-first : Reached 0 [] text → Refused text 4 1
+  no-version : {line : List ℕ} → Barred 0 line text → Refused text 4 1
+  no-second : Reached 1 [] text → Refused text 5 2
+  no-start : {line : List ℕ} → Barred 1 line text → Refused text 5 2
+  dollar : {n : ℕ} {line : List ℕ} → 2 ≤ n → Barred n line text → DollarLine line → Refused text 6 (n + 1)
+  no-row : {n : ℕ} {line : List ℕ} → 2 ≤ n → Barred n line text → (DollarLine line → ⊥) → Refused text 7 (n + 1)
+
+-- `read` of a text, into an output that held `before` and then holds `after`, gives the numbers a.
+pub data ReadPromise (text before a after : List ℕ) : Type 0 where
+  -- the text is too long
+  large : sizeLimit < length text → a ≡ readNumbers (outcome.Refused 1 0) → after ≡ before → ReadPromise text before a after
+  -- a trace is spelled as it, and there is room: that trace is handed out
+  done : {t : Trace} → length text ≤ sizeLimit → Spells t text → 20 * length (t .records) ≤ length before
+      → a ≡ readNumbers (outcome.Done (t .version) (t .start) (length (t .records)) (stepBack (t .records)))
+      → after ≡ packed (t .records) ++ drop (20 * length (t .records)) before → ReadPromise text before a after
+  -- a trace is spelled as it, and there is no room
+  no-room : {t : Trace} → length text ≤ sizeLimit → Spells t text → length before < 20 * length (t .records)
+      → a ≡ readNumbers (outcome.Refused 8 0) → after ≡ before → ReadPromise text before a after
+  -- none is: the refusal of the first line that stops it
+  refused : {n p : ℕ} → length text ≤ sizeLimit → Refused text n p → a ≡ readNumbers (outcome.Refused n p) → after ≡ before
+      → ReadPromise text before a after

@@ -1,0 +1,257 @@
+// A whole trace: read from text into packed records, in two passes. The first judges every line and counts, the second fills.
+use lines::Ending;
+use lines::Remark;
+use lines::StartTime;
+use record::Record;
+use row::Reading;
+ghost use mathlib.Core.Path.{_≡_};
+ghost use mathlib.Core.List.{List, _++_};
+ghost use Prim.Native.Nat.{_*_, _≤_, _<_};
+ghost use lib.ListN.{length, drop};
+ghost use Rattle.record.specs.declared.Record.{Record as AnyRecord};
+ghost use Rattle.trace.specs.Trace.{sizeLimit, Spells};
+ghost use Rattle.trace.specs.Promise.{packed, readNumbers, ReadPromise};
+ghost use Rattle.trace.specs.Passes.{Says, Versioned, Headed, Heads, Judges, Fits, BackAfter, Filled};
+
+// The answer of `read`.
+pub enum Outcome {
+    Done {
+        version: u64,
+        start: u64,
+        rows: u64,
+        step_back: u64,
+    },
+    Refused {
+        number: u64,
+        place: u64,
+    },
+}
+
+// What a line from line 3 on is, with the place of the next line: the expected row, a comment, or refused with a number.
+pub enum LineIs {
+    Row(Record, usize),
+    Note(usize),
+    Bad(u64),
+}
+
+// The first two lines: version, start, and where line 3 starts; or a refusal.
+pub enum Heading {
+    Body { version: u64, start: u64, at: usize },
+    Bad { number: u64, place: u64 },
+}
+
+// The whole text: how many rows, and the first step back; or a refusal.
+pub enum Judged {
+    Good { rows: u64, back: u64 },
+    Bad { number: u64, place: u64 },
+}
+
+// The first two lines.
+fn head(text: &[u8]) -> Heading
+    requires { ⌜ length (now text) ≤ sizeLimit ⌝ }
+    ensures { λ h. ⌜ Heads (now (text .entry)) h ⌝ }
+{
+    let end = lines::line_end(text, 0);
+    let Ending::At(e) = end else {
+        if text.len() == 0 {
+            return Heading::Bad {
+                number: 4,
+                place: 1,
+            };
+        }
+        return Heading::Bad {
+            number: 2,
+            place: 1,
+        };
+    };
+    if 250 < e {
+        return Heading::Bad {
+            number: 3,
+            place: 1,
+        };
+    }
+    let version = lines::version_line(&text[0..e]);
+    if version == 0 {
+        return Heading::Bad {
+            number: 4,
+            place: 1,
+        };
+    }
+    second(text, e + 2, version)
+}
+
+// The second line, behind a version line.
+fn second(text: &[u8], at: usize, version: u64) -> Heading
+    requires { ⌜ Versioned (now text) at version × (length (now text) ≤ sizeLimit) ⌝ }
+    ensures { λ h. ⌜ Heads (now (text .entry)) h ⌝ }
+{
+    let end = lines::line_end(text, at);
+    let Ending::At(e) = end else {
+        if text.len() <= at {
+            return Heading::Bad {
+                number: 5,
+                place: 2,
+            };
+        }
+        return Heading::Bad {
+            number: 2,
+            place: 2,
+        };
+    };
+    if 250 < e - at {
+        return Heading::Bad {
+            number: 3,
+            place: 2,
+        };
+    }
+    let s = lines::start_line(&text[at..e]);
+    let StartTime::Ms(start) = s else {
+        return Heading::Bad {
+            number: 5,
+            place: 2,
+        };
+    };
+    Heading::Body {
+        version,
+        start,
+        at: e + 2,
+    }
+}
+
+// What the line at a place is, where row k of a version is expected.
+fn line_at(text: &[u8], at: usize, version: u64, k: u64) -> LineIs
+    requires { ⌜ at < length (now text) ⌝ }
+    ensures { λ l. ⌜ Says (now (text .entry)) at version k l ⌝ }
+{
+    let end = lines::line_end(text, at);
+    let Ending::At(e) = end else {
+        return LineIs::Bad(2);
+    };
+    if 250 < e - at {
+        return LineIs::Bad(3);
+    }
+    let a = row::read_row(&text[at..e], version, k);
+    if let Reading::Is(r) = a {
+        return LineIs::Row(r, e + 2);
+    }
+    let m = lines::remark_of(&text[at..e]);
+    match m {
+        Remark::Plain => LineIs::Note(e + 2),
+        Remark::Dollar => LineIs::Bad(6),
+        Remark::Neither => LineIs::Bad(7),
+    }
+}
+
+// The first step back, where one record more has this offset, and the one before it has that.
+fn back_after(back: u64, row: u64, before: u64, offset: u64) -> u64
+    ensures { λ b. ⌜ BackAfter back row before offset b ⌝ }
+{
+    if back != 0 {
+        return back;
+    }
+    if offset < before {
+        return row;
+    }
+    0
+}
+
+// The first pass, from line 3 on: every line is judged, and the rows are counted.
+fn judge(text: &[u8], from: usize, version: u64, start: u64) -> Judged
+    requires { ⌜ Headed (now text) from version start × (length (now text) ≤ sizeLimit) ⌝ }
+    ensures { λ j. ⌜ Judges (now (text .entry)) version start j ⌝ }
+{
+    let mut at = from;
+    let mut place: u64 = 2;
+    let mut rows: u64 = 0;
+    let mut last: u64 = 0;
+    let mut back: u64 = 0;
+    while at < text.len() {
+        place += 1;
+        let l = line_at(text, at, version, rows + 1);
+        match l {
+            LineIs::Row(r, next) => {
+                rows += 1;
+                back = back_after(back, rows, last, r.offset);
+                last = r.offset;
+                at = next;
+            }
+            LineIs::Note(next) => {
+                at = next;
+            }
+            LineIs::Bad(number) => {
+                return Judged::Bad { number, place };
+            }
+        }
+    }
+    Judged::Good { rows, back }
+}
+
+// The second pass: the records of the rows are packed into the output, which has room for them. No line is refused any more.
+fn fill(text: &[u8], from: usize, version: u64, start: u64, out: &mut [u8])
+    requires { ⌜ Headed (now text) from version start × Fits (now text) (now out) version start ⌝ }
+    ensures { λ _. ⌜ Filled (now (text .entry)) (now (out .entry)) (now (out .exit)) ⌝ }
+{
+    let mut at = from;
+    let mut done: u64 = 0;
+    let mut o = 0;
+    while at < text.len() {
+        let l = line_at(text, at, version, done + 1);
+        match l {
+            LineIs::Row(r, next) => {
+                record::put_record(out, o, r);
+                done += 1;
+                o += 20;
+                at = next;
+            }
+            LineIs::Note(next) => {
+                at = next;
+            }
+            LineIs::Bad(_) => {
+                return;
+            }
+        }
+    }
+}
+
+// From line 3 on: the two passes.
+fn body(text: &[u8], at: usize, version: u64, start: u64, out: &mut [u8]) -> Outcome
+    requires { ⌜ Headed (now text) at version start × (length (now text) ≤ sizeLimit) ⌝ }
+    ensures { λ r. ⌜ ReadPromise (now (text .entry)) (now (out .entry)) (readNumbers r) (now (out .exit)) ⌝ }
+{
+    let j = judge(text, at, version, start);
+    match j {
+        Judged::Good { rows, back } => {
+            if out.len() as u64 / 20 < rows {
+                return Outcome::Refused {
+                    number: 8,
+                    place: 0,
+                };
+            }
+            fill(text, at, version, start, out);
+            Outcome::Done {
+                version,
+                start,
+                rows,
+                step_back: back,
+            }
+        }
+        Judged::Bad { number, place } => Outcome::Refused { number, place },
+    }
+}
+
+// Reads a trace text into packed records.
+pub fn read(text: &[u8], out: &mut [u8]) -> Outcome
+    ensures { λ r. ⌜ ReadPromise (now (text .entry)) (now (out .entry)) (readNumbers r) (now (out .exit)) ⌝ }
+{
+    if 134217728 < text.len() {
+        return Outcome::Refused {
+            number: 1,
+            place: 0,
+        };
+    }
+    let h = head(text);
+    match h {
+        Heading::Body { version, start, at } => body(text, at, version, start, out),
+        Heading::Bad { number, place } => Outcome::Refused { number, place },
+    }
+}
