@@ -3,6 +3,7 @@ use Prim.Native.Nat.{ℕ, suc, _+_, _≤_, _<_}
 use mathlib.Core.Path.{_≡_, refl, ap, ap₂, sym, _∙_}
 use mathlib.Core.List.{List, [], _∷_, _++_}
 use native.Mathlib.Nat.{add-zero, add-suc, suc-add}
+use native.Mathlib.Numerals.{add-one}
 use native.Mathlib.Omega.{arith}
 use lib.ListN.{length, getD, take, drop, set, length-append, take-append-drop}
 use lib.Seq.{slice, slice-cons, sets, sets-eq, take-suc, take-take, take-at, drop-at, drop-append-le, length-take-le}
@@ -47,3 +48,9 @@ slice-sets s l i h =
     let a : length (take i l) ≡ i = length-take-le i l (omega arith) in
     let b : length (take i l ++ s) ≡ i + length s = rw (length-append, a) in
     rw (sets-eq s l i h, take-at (take i l ++ s) (drop (i + length s) l) (i + length s) b, drop-at (take i l) s i a)
+
+-- One byte more of a text, put behind those before it.
+pub put-next : {l a : List ℕ} {at i : ℕ} (text : List ℕ) → i < length text → Wrote l a at (at + i) (take i text)
+    → Wrote l (set a (at + i) (getD text i 0)) at (at + (i + 1)) (take (i + 1) text)
+put-next {l} {a} {at} {i} text h w =
+    rw (add-one, take-suc text i 0 h) (then w (record { next = omega arith; stored = refl }))

@@ -1,7 +1,7 @@
-// What every layer shares: one byte widened, one byte stored.
+// What every layer shares: one byte widened, one byte or some bytes stored.
 ghost use mathlib.Core.Path.{_≡_};
 ghost use mathlib.Core.List.{[], _∷_};
-ghost use Prim.Native.Nat.{_<_};
+ghost use Prim.Native.Nat.{_+_, _≤_, _<_};
 ghost use lib.ListN.{length};
 ghost use Rattle.base.specs.Wrote.{Wrote};
 
@@ -19,4 +19,17 @@ pub fn put_byte(out: &mut [u8], at: usize, b: u8) -> usize
 {
     out[at] = b;
     at + 1
+}
+
+// Puts some bytes at a position, and gives the position after them.
+pub fn put_text(out: &mut [u8], at: usize, text: &[u8]) -> usize
+    requires { ⌜ at + length (now text) ≤ length (now out) ⌝ }
+    ensures { λ r. ⌜ Wrote (now (out .entry)) (now (out .exit)) at r (now (text .entry)) ⌝ }
+{
+    let mut i = 0;
+    while i < text.len() {
+        out[at + i] = text[i];
+        i += 1;
+    }
+    at + i
 }
