@@ -4,9 +4,11 @@ pub mod Beginnings
 pub mod Cuts
 pub mod Fails
 pub mod Filling
+pub mod HouseTexts
 pub mod Judging
 pub mod One
 pub mod Opening
 pub mod Packing
 pub mod Pieces
 pub mod Place
+pub mod There
