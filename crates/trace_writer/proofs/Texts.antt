@@ -1,0 +1,40 @@
+-- The house texts by their parts, and how long they are.
+use Prim.Native.Nat.{ℕ, suc, _+_, _*_, _/_, _%_, _^_, _≤_, _<_}
+use mathlib.Core.Path.{_≡_, refl, ap, sym, _∙_}
+use mathlib.Core.List.{List, [], _∷_, _++_, append-assoc}
+use native.Mathlib.Omega.{arith}
+use lib.ListN.{length, length-append}
+use Rattle.digits.specs.House.{decimalText, paddedText, figureOf}
+use Rattle.digits.proofs.House.{length-fixed, few}
+use Rattle.clock.specs.Start.{dayMs, DayFraction}
+use Rattle.clock.proofs.Starts.{one-fraction}
+use Rattle.lines.specs.Lines.{startText}
+use Rattle.record.specs.declared.Record.{Record}
+use Rattle.row.specs.House.{rowText}
+use Rattle.trace.specs.Trace.{Trace}
+use Rattle.trace.specs.House.{versionLineText, dayFraction, startLineText, rowsText, traceText}
+use Rattle.trace.proofs.HouseTexts.{version-line, start-line, trace-text}
+use Rattle.trace_writer.specs.Passes.{ended, headText}
+
+-- What is put together in steps.
+
+pub version-cut : (version : ℕ) → ended (versionLineText version) ≡ (59 ∷ 36 ∷ 70 ∷ 73 ∷ 76 ∷ 69 ∷ 86 ∷ 69 ∷ 82 ∷ 83 ∷ 73 ∷ 79 ∷ 78 ∷ 61 ∷ 49 ∷ 46 ∷ []) ++ ((48 + version % 10) ∷ 13 ∷ 10 ∷ [])
+version-cut version = rw version-line
+
+pub start-cut : (start : ℕ)
+    → ended (startLineText start) ≡ (59 ∷ startText) ++ (decimalText (start / dayMs) ++ (46 ∷ (paddedText 10 (dayFraction (start % dayMs)) ++ (13 ∷ 10 ∷ []))))
+start-cut start = rw (start-line, append-assoc, append-assoc)
+
+pub version-length : (version : ℕ) → length (ended (versionLineText version)) ≡ 19
+version-length version = rw version-cut
+
+pub start-length : (start : ℕ) → length (ended (startLineText start)) ≡ length (decimalText (start / dayMs)) + 25
+start-length start =
+    rw start-cut (omega (arith, length-append (decimalText (start / dayMs)) (46 ∷ (paddedText 10 (dayFraction (start % dayMs)) ++ (13 ∷ 10 ∷ []))), length-append (paddedText 10 (dayFraction (start % dayMs))) (13 ∷ 10 ∷ []), length-fixed figureOf 10 10 (dayFraction (start % dayMs))))
+
+pub head-length : (version start : ℕ) → length (headText version start) ≡ length (decimalText (start / dayMs)) + 44
+head-length version start = rw length-append (omega (arith, version-length version, start-length start))
+
+-- what a machine word holds has at most 20 digits
+pub short : (n : ℕ) → n < 2 ^ 64 → length (decimalText n) ≤ 20
+short n h = few 19 n (omega arith)

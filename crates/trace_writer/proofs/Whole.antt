@@ -1,0 +1,56 @@
+-- The whole text: its two parts, its length, and that it is what was put.
+use Prim.Native.Nat.{ℕ, _+_, _≤_}
+use mathlib.Core.Path.{_≡_, refl, ap, sym, _∙_}
+use mathlib.Core.List.{List, [], _∷_, _++_, append-assoc}
+use native.Mathlib.Nat.{zero-add}
+use native.Mathlib.Omega.{arith}
+use lib.ListN.{length, drop, length-append}
+use lib.Seq.{sets, sets-eq}
+use Rattle.base.specs.Wrote.{Wrote}
+use Rattle.base.proofs.Lists.{then}
+use Rattle.clock.specs.Start.{startLimit}
+use Rattle.record.specs.declared.Record.{Record}
+use Rattle.trace.specs.House.{versionLineText, startLineText, rowsText, traceText, Version, Carried, Writable}
+use Rattle.trace.proofs.HouseTexts.{trace-text, rows-size}
+use Rattle.trace.proofs.Packing.{packed-length}
+use Rattle.trace_writer.specs.Promise.{Whole, Holds, Stopped, malformed, misfit, traceOf}
+use Rattle.trace_writer.specs.Passes.{ended, headText, Unfit, RowsPut}
+use Rattle.trace_writer.specs.Passes
+
+module _ (version start : ℕ) (rs : List Record) where
+  pub trace-cut : traceText (traceOf version start rs) ≡ headText version start ++ rowsText version 1 rs
+  trace-cut = rw (trace-text, append-assoc, append-assoc, append-assoc)
+
+  pub trace-length : length (traceText (traceOf version start rs)) ≡ length (headText version start) + length (rowsText version 1 rs)
+  trace-length = ap length trace-cut ∙ length-append (headText version start) (rowsText version 1 rs)
+
+-- What was judged can be written.
+pub writable : {version start : ℕ} {s : List ℕ} {rs : List Record} → Whole s → Version version → start ≤ startLimit → Holds rs s → Carried version rs
+    → Writable (traceOf version start rs)
+writable {rs = rs} w v l h c = record {
+  version = v;
+  start = l;
+  few = omega (arith, w .few, ap length (h .bytes), packed-length rs);
+  formed = h .formed;
+  carried = c;
+}
+
+-- The rows fit a machine word many times over.
+pub rows-few : {version start : ℕ} {rs : List Record} → Writable (traceOf version start rs) → length (rowsText version 1 rs) ≤ 68999931
+rows-few w = let f = w .few in omega (arith, rows-size 1 (w .formed) (w .carried) (omega arith))
+
+-- The first record that can't be written stops the rest.
+pub unfit-stopped : {version start n p : ℕ} {s : List ℕ} → Whole s → Version version → start ≤ startLimit → Unfit version s n p → Stopped version start s n p
+unfit-stopped w v l (Passes.malformed f) = malformed w v l f
+unfit-stopped w v l (Passes.misfit h f) = misfit w v l h f
+
+-- What was put at the start stands before what was behind it.
+at-start : {old new t : List ℕ} {e : ℕ} → Wrote old new 0 e t → length t ≤ length old → new ≡ t ++ drop (length t) old
+at-start {old} {t = t} w h = w .stored ∙ sets-eq t old 0 (omega arith) ∙ rw zero-add
+
+-- Line 1, line 2 and the rows are the house spelling.
+pub all-written : {p q : ℕ} {s old one two new : List ℕ} (version start : ℕ) (rs : List Record) → Holds rs s → Wrote old one 0 p (ended (versionLineText version))
+    → Wrote one two p q (ended (startLineText start)) → RowsPut version s two new q → length (traceText (traceOf version start rs)) ≤ length old
+    → new ≡ traceText (traceOf version start rs) ++ drop (length (traceText (traceOf version start rs))) old
+all-written version start rs h a b r l =
+    at-start {t = traceText (traceOf version start rs)} (rw (← (trace-cut version start rs)) at (then (then a b) (r .rows rs h .1))) l

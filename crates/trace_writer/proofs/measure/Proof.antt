@@ -1,0 +1,47 @@
+-- `trace_writer::measure` keeps: the records up to `at` are judged and measured.
+use Prim.Native.Nat.{_+_, _-_, _≤_}
+use native.Mathlib.Omega.{arith}
+use borrow.Author.Needs.{needs}
+use lib.ListN.{length}
+use Rattle.trace_writer.proofs.Measuring.{Measuring, measuring, one-more, malformed-next, measured-more, measured, misfit-found}
+use Rattle.trace_writer.proofs.measure.Statement.{statement}
+use Rattle.trace_writer.proofs.measure.Tie as tie
+
+abbrev Inv-loop : tie.InvT-loop
+Inv-loop version s at₀ k₀ size₀ misfit₀ at k size misfit = Measuring version s at k size misfit
+
+abbrev μ-loop : tie.MeasureT-loop
+μ-loop version s at₀ k₀ size₀ misfit₀ at k size misfit = length s - at
+
+-- the record that is being measured is whole
+room : (c : tie.After-misfit-after Inv-loop μ-loop) → c .before .before .before .before .before .before .before .loop .at + 20 ≤ length (c .before .before .before .before .before .before .before .before .before .args .records .now)
+room c = one-more (c .before .before .before .before .before .before .before .loop .inv) (c .before .before .before .before .before .before .before .before .before .pre) (c .before .before .before .before .before .before .loop-test .taken) .0
+
+pub measure-spec : {M : Type 1} → statement M
+measure-spec =
+    tie.close
+    (tie.spec Inv-loop μ-loop
+    (λ c. measuring _ _)
+    (λ c. let m = one-more (c .before .loop .inv) (c .before .before .before .pre) (c .loop-test .taken) .1 in omega arith)
+    (λ c κs. one-more (c .before .loop .inv) (c .before .before .before .pre) (c .loop-test .taken) .0)
+    (λ c. search needs)
+    (λ c. search needs)
+    (λ c.
+    let l = c .before .before .before .before .loop .inv in
+    let h = one-more l (c .before .before .before .before .before .before .pre) (c .before .before .before .loop-test .taken) .0 in
+    malformed-next l h (rw (c .enum-told .given .1) at (c .before .before .record-at .ensures)))
+    (λ c κs.
+    let p = rw (c .before .e .given .1) at (c .before .before .before .record-at .ensures) in
+    (p .formed, omega arith, one-more (c .before .before .before .before .before .loop .inv) (c .before .before .before .before .before .before .before .pre) (c .before .before .before .before .loop-test .taken) .1))
+    (λ c κs. search needs)
+    (λ c.
+    let l = c .before .before .before .before .before .before .before .loop .inv in
+    let m = one-more l (c .before .before .before .before .before .before .before .before .before .pre) (c .before .before .before .before .before .before .loop-test .taken) .1 in
+    omega (arith, l .bounded, c .before .row-bytes .ensures .1))
+    (λ c. let h = room c in omega arith)
+    (λ c. let h = room c in omega arith)
+    (λ c.
+    let p = rw (c .before .before .before .e .given .1) at (c .before .before .before .before .before .record-at .ensures) in
+    measured-more (c .before .before .before .before .before .before .before .loop .inv) (room c) p (c .misfit-after .ensures) (c .before .row-bytes .ensures))
+    (λ c. misfit-found (c .before .before .loop .inv) (c .before .loop-test .left) (c .if1 .taken))
+    (λ c. measured (c .before .before .loop .inv) (c .before .loop-test .left) (c .if1 .left)))

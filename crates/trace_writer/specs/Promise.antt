@@ -1,0 +1,79 @@
+-- What `write` promises for every version, start, bytes of records and output.
+use Prim.Native.Nat.{ℕ, _+_, _%_, _≤_, _<_}
+use mathlib.Core.Path.{_≡_}
+use mathlib.Core.List.{List, [], _∷_, _++_}
+use lib.ListN.{length, drop}
+use Rattle.clock.specs.Start.{startLimit}
+use Rattle.record.specs.declared.Record.{Record}
+use Rattle.record.specs.Record.{WellFormed, Packs}
+use Rattle.row.specs.Answer.{Carries}
+use Rattle.trace.specs.Trace.{Trace}
+use Rattle.trace.specs.Promise.{packed}
+use Rattle.trace.specs.House.{traceText, Version, Each, Carried, Writable}
+use Rattle.trace_writer.specs.declared.Written.{Written}
+use Rattle.trace_writer.specs.declared.Written.the-variants as written
+
+-- Number, place and bytes written for each answer.
+abbrev pub writeNumbers : Written → List ℕ
+writeNumbers (written.Done n) = 0 ∷ 0 ∷ n ∷ []
+writeNumbers (written.Refused n p) = n ∷ p ∷ 0 ∷ []
+
+-- Twenty bytes for each record, and no more records than row numbers.
+pub record Whole (s : List ℕ) : Type 0 where
+  pub twenties : length s % 20 ≡ 0
+  pub few : length s ≤ 19999980
+
+-- The bytes are these records, each well formed, packed one after the other.
+pub record Holds (rs : List Record) (s : List ℕ) : Type 0 where
+  pub formed : Each WellFormed rs
+  pub bytes : s ≡ packed rs
+
+-- The first record that is not well formed, by its position from 1: those before it are, and its twenty bytes are no packed record.
+pub record FirstMalformed (s : List ℕ) (place : ℕ) : Type 0 where
+  pub before : List Record
+  pub these : List ℕ
+  pub after : List ℕ
+  pub bytes : s ≡ packed before ++ (these ++ after)
+  pub formed : Each WellFormed before
+  pub twenty : length these ≡ 20
+  pub malformed : (r : Record) → Packs r these → ⊥
+  pub at : place ≡ length before + 1
+
+-- The first record that the version can't carry, by its position from 1: those before it are carried.
+pub record FirstMisfit (version : ℕ) (rs : List Record) (place : ℕ) : Type 0 where
+  pub before : List Record
+  pub this : Record
+  pub after : List Record
+  pub whole : rs ≡ before ++ (this ∷ after)
+  pub carried : Carried version before
+  pub misfit : Carries this version → ⊥
+  pub at : place ≡ length before + 1
+
+-- What is refused whatever the output, with which number at which place. In the table's order: each says that those before it do not hold.
+pub data Stopped (version start : ℕ) (s : List ℕ) : ℕ → ℕ → Type 0 where
+  no-records : (Whole s → ⊥) → Stopped version start s 20 0
+  no-version : Whole s → (Version version → ⊥) → Stopped version start s 21 0
+  late : Whole s → Version version → startLimit < start → Stopped version start s 22 0
+  malformed : {place : ℕ} → Whole s → Version version → start ≤ startLimit → FirstMalformed s place → Stopped version start s 23 place
+  misfit : {rs : List Record} {place : ℕ} → Whole s → Version version → start ≤ startLimit → Holds rs s → FirstMisfit version rs place
+      → Stopped version start s 24 place
+
+-- The trace with this version, start and records.
+abbrev pub traceOf : ℕ → ℕ → List Record → Trace
+traceOf version start rs = record { version = version; start = start; records = rs }
+
+-- `write` of a version, a start and the bytes s, into an output that held `before` and then holds `after`, gives the numbers a.
+pub data WritePromise (version start : ℕ) (s before a after : List ℕ) : Type 0 where
+  -- one of 20 to 24
+  refused : {n p : ℕ} → Stopped version start s n p → a ≡ writeNumbers (written.Refused n p) → after ≡ before
+      → WritePromise version start s before a after
+  -- everything good, and the output too short
+  no-room : {rs : List Record} → Writable (traceOf version start rs) → s ≡ packed rs
+      → length before < length (traceText (traceOf version start rs))
+      → a ≡ writeNumbers (written.Refused 25 0) → after ≡ before → WritePromise version start s before a after
+  -- the house spelling, and behind it what was there
+  done : {rs : List Record} → Writable (traceOf version start rs) → s ≡ packed rs
+      → length (traceText (traceOf version start rs)) ≤ length before
+      → a ≡ writeNumbers (written.Done (length (traceText (traceOf version start rs))))
+      → after ≡ traceText (traceOf version start rs) ++ drop (length (traceText (traceOf version start rs))) before
+      → WritePromise version start s before a after

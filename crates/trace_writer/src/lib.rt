@@ -1,0 +1,250 @@
+// A whole trace, written from packed records as the house spells it. The first pass judges and measures, the second writes.
+use base::put_byte;
+use base::put_text;
+use clock::START_LIMIT;
+use clock::day_fraction;
+use digits::decimal_length;
+use digits::put_decimal;
+use digits::put_padded;
+use record::Record;
+use record::Unpacked;
+use record::unpack;
+use row_writer::put_row;
+use row_writer::row_length;
+ghost use mathlib.Core.Path.{_≡_};
+ghost use mathlib.Core.List.{[], _∷_};
+ghost use Prim.Native.Nat.{_+_, _≤_};
+ghost use lib.ListN.{length, take, drop};
+ghost use Rattle.base.specs.Decides.{Decides};
+ghost use Rattle.base.specs.Wrote.{Wrote};
+ghost use Rattle.clock.specs.Start.{startLimit};
+ghost use Rattle.fields.specs.Columns.{lastNumber};
+ghost use Rattle.record.specs.Record.{WellFormed};
+ghost use Rattle.row.specs.Answer.{Carries};
+ghost use Rattle.trace.specs.House.{Version, versionLineText, startLineText};
+ghost use Rattle.trace_writer.specs.Promise.{writeNumbers, Whole, WritePromise};
+ghost use Rattle.trace_writer.specs.Passes.{ended, headText, EntryOf, RowBytes, MisfitAfter, Measures, Fits, RowsPut};
+
+// The answer of `write`.
+pub enum Written {
+    Done { bytes: usize },
+    Refused { number: u64, place: u64 },
+}
+
+// What twenty bytes are: a well-formed record, or none.
+pub enum Entry {
+    Is(Record),
+    Not,
+}
+
+// How many bytes the rows are; or a refusal.
+pub enum Size {
+    Bytes(usize),
+    Bad { number: u64, place: u64 },
+}
+
+// CR LF.
+fn put_end(out: &mut [u8], at: usize) -> usize
+    requires { ⌜ at + 2 ≤ length (now out) ⌝ }
+    ensures { λ r. ⌜ Wrote (now (out .entry)) (now (out .exit)) at r (13 ∷ 10 ∷ []) ⌝ }
+{
+    let p = put_byte(out, at, 13);
+    put_byte(out, p, 10)
+}
+
+// Line 1.
+fn put_version_line(out: &mut [u8], at: usize, version: u64) -> usize
+    requires { ⌜ at + length (ended (versionLineText version)) ≤ length (now out) ⌝ }
+    ensures { λ r. ⌜ Wrote (now (out .entry)) (now (out .exit)) at r (ended (versionLineText version)) ⌝ }
+{
+    let p = put_text(out, at, b";$FILEVERSION=1.");
+    let q = put_byte(out, p, 48 + (version % 10) as u8);
+    put_end(out, q)
+}
+
+// Line 2.
+fn put_start_line(out: &mut [u8], at: usize, start: u64) -> usize
+    requires { ⌜ at + length (ended (startLineText start)) ≤ length (now out) ⌝ }
+    ensures { λ r. ⌜ Wrote (now (out .entry)) (now (out .exit)) at r (ended (startLineText start)) ⌝ }
+{
+    let p = put_text(out, at, b";$STARTTIME=");
+    let q = put_decimal(out, p, start / 86400000);
+    let s = put_byte(out, q, 46);
+    let t = put_padded(out, s, 10, day_fraction(start % 86400000));
+    put_end(out, t)
+}
+
+// How many bytes lines 1 and 2 are.
+fn head_length(version: u64, start: u64) -> usize
+    ensures { λ r. ⌜ (r ≡ length (headText version start)) × (r ≤ 64) ⌝ }
+{
+    decimal_length(start / 86400000) + 44
+}
+
+// The record at a place.
+fn record_at(records: &[u8], at: usize) -> Entry
+    requires { ⌜ at + 20 ≤ length (now records) ⌝ }
+    ensures { λ e. ⌜ EntryOf (take 20 (drop at (now (records .entry)))) e ⌝ }
+{
+    let u = unpack(&records[at..at + 20]);
+    match u {
+        Unpacked::Fields(r) => Entry::Is(r),
+        Unpacked::NotTwenty => Entry::Not,
+        Unpacked::Malformed => Entry::Not,
+    }
+}
+
+// Whether a version can carry a record.
+fn carries(r: Record, version: u64) -> bool
+    ensures { λ b. ⌜ Decides (Carries r version) b ⌝ }
+{
+    if version == 11 {
+        if r.bus != 0 {
+            return false;
+        }
+        return r.offset % 100 == 0;
+    }
+    if version != 12 {
+        return false;
+    }
+    if r.bus == 0 {
+        return false;
+    }
+    if 16 < r.bus {
+        return false;
+    }
+    true
+}
+
+// How many bytes a row with its end is, or 0 if the version can't carry it.
+fn row_bytes(version: u64, k: u64, r: Record) -> usize
+    requires { ⌜ WellFormed r × (1 ≤ k) × (k ≤ lastNumber) ⌝ }
+    ensures { λ n. ⌜ RowBytes version k r n × (n ≤ 66) ⌝ }
+{
+    if !carries(r, version) {
+        return 0;
+    }
+    row_length(version, k, r) + 2
+}
+
+// The first misfit, where row k is n bytes, or 0.
+fn misfit_after(misfit: u64, k: u64, n: usize) -> u64
+    ensures { λ r. ⌜ MisfitAfter misfit k n r ⌝ }
+{
+    if misfit != 0 {
+        return misfit;
+    }
+    if n == 0 {
+        return k;
+    }
+    0
+}
+
+// The first pass: every record is judged, and the rows are measured.
+fn measure(version: u64, records: &[u8]) -> Size
+    requires { ⌜ Whole (now records) ⌝ }
+    ensures { λ m. ⌜ Measures version (now (records .entry)) m ⌝ }
+{
+    let mut at = 0;
+    let mut k: u64 = 0;
+    let mut size = 0;
+    let mut misfit: u64 = 0;
+    while at < records.len() {
+        k += 1;
+        let e = record_at(records, at);
+        let Entry::Is(r) = e else {
+            return Size::Bad {
+                number: 23,
+                place: k,
+            };
+        };
+        let n = row_bytes(version, k, r);
+        misfit = misfit_after(misfit, k, n);
+        size += n;
+        at += 20;
+    }
+    if misfit != 0 {
+        return Size::Bad {
+            number: 24,
+            place: misfit,
+        };
+    }
+    Size::Bytes(size)
+}
+
+// The second pass: the rows are put behind `from`, where there is room. No record is refused any more.
+fn put_rows(version: u64, records: &[u8], out: &mut [u8], from: usize)
+    requires { ⌜ Fits version (now records) (now out) from ⌝ }
+    ensures { λ _. ⌜ RowsPut version (now (records .entry)) (now (out .entry)) (now (out .exit)) from ⌝ }
+{
+    let mut at = 0;
+    let mut k: u64 = 0;
+    let mut p = from;
+    while at < records.len() {
+        k += 1;
+        let e = record_at(records, at);
+        let Entry::Is(r) = e else {
+            return;
+        };
+        let q = put_row(out, p, version, k, r);
+        p = put_end(out, q);
+        at += 20;
+    }
+}
+
+// Both passes, where all but the records and the room is judged.
+fn put_trace(version: u64, start: u64, records: &[u8], out: &mut [u8]) -> Written
+    requires { ⌜ Whole (now records) × Version version × (start ≤ startLimit) ⌝ }
+    ensures { λ w. ⌜ WritePromise version start (now (records .entry)) (now (out .entry)) (writeNumbers w) (now (out .exit)) ⌝ }
+{
+    let m = measure(version, records);
+    match m {
+        Size::Bytes(rows) => {
+            let bytes = head_length(version, start) + rows;
+            if out.len() < bytes {
+                return Written::Refused {
+                    number: 25,
+                    place: 0,
+                };
+            }
+            let p = put_version_line(out, 0, version);
+            let q = put_start_line(out, p, start);
+            put_rows(version, records, out, q);
+            Written::Done { bytes }
+        }
+        Size::Bad { number, place } => Written::Refused { number, place },
+    }
+}
+
+// Writes a trace from packed records.
+pub fn write(version: u64, start: u64, records: &[u8], out: &mut [u8]) -> Written
+    ensures { λ w. ⌜ WritePromise version start (now (records .entry)) (now (out .entry)) (writeNumbers w) (now (out .exit)) ⌝ }
+{
+    if records.len() % 20 != 0 {
+        return Written::Refused {
+            number: 20,
+            place: 0,
+        };
+    }
+    if 19_999_980 < records.len() {
+        return Written::Refused {
+            number: 20,
+            place: 0,
+        };
+    }
+    if version != 11 {
+        if version != 12 {
+            return Written::Refused {
+                number: 21,
+                place: 0,
+            };
+        }
+    }
+    if START_LIMIT < start {
+        return Written::Refused {
+            number: 22,
+            place: 0,
+        };
+    }
+    put_trace(version, start, records, out)
+}
