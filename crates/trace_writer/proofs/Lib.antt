@@ -1,6 +1,9 @@
 pub mod Texts
 pub mod Carrying
 pub mod Lists
+pub mod Records
 pub mod Measuring
 pub mod Putting
 pub mod Whole
+pub mod Answers
+pub mod Again

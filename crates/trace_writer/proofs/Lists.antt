@@ -1,21 +1,17 @@
 -- Laws on the records of a trace, in order: their properties, their packed bytes and their rows, one more at the end.
-use Prim.Native.Nat.{ℕ, suc, _+_, _*_, _-_, _≤_, _<_}
+use Prim.Native.Nat.{ℕ, _+_, _≤_}
 use mathlib.Core.Path.{_≡_, refl, ap, sym, _∙_}
-use mathlib.Core.List.{List, [], _∷_, _++_, append-assoc, append-nil}
-use native.Mathlib.Nat.{add-zero}
+use mathlib.Core.List.{List, [], _∷_, _++_}
 use native.Mathlib.Omega.{arith}
-use lib.ListN.{length, take, drop, length-append, length-drop, take-append-drop}
+use lib.ListN.{length, take, drop, length-drop, take-append-drop}
 use lib.Seq.{take-at, drop-at, drop-drop, length-take-le}
 use Rattle.record.specs.declared.Record.{Record}
 use Rattle.record.specs.Bytes.{bytes}
-use Rattle.record.specs.Record.{number, WellFormed, Packs}
+use Rattle.record.specs.Record.{number}
 use Rattle.record.proofs.Bytes.{length-bytes}
-use Rattle.record.proofs.OneRecord.{packs, one-record}
 use Rattle.row.specs.House.{rowText}
 use Rattle.trace.specs.Promise.{packed}
 use Rattle.trace.specs.House.{rowsText, Each, none, more}
-use Rattle.trace.proofs.Packing.{packed-append, packed-more, packed-length}
-use Rattle.trace_writer.specs.Promise.{Holds}
 use Rattle.trace_writer.specs.Passes.{ended}
 use Rattle.trace.proofs.HouseTexts.{rows-none, rows-more, rows-append}
 
@@ -61,16 +57,3 @@ first-packed r rs = rw packed-first (take-at (bytes 20 (number r)) (packed rs) 2
 
 pub rest-packed : (r : Record) (rs : List Record) → drop 20 (packed (r ∷ rs)) ≡ packed rs
 rest-packed r rs = rw packed-first (drop-at (bytes 20 (number r)) (packed rs) 20 (length-bytes 20 (number r)))
-
-pub packed-one : {rs qs : List Record} → Each WellFormed rs → Each WellFormed qs → packed rs ≡ packed qs → rs ≡ qs
-packed-one none none e = refl
-packed-one none (more {r = q} {rs = qs} x g) e = absurd (omega (arith, ap length e, packed-length [], packed-length (q ∷ qs)))
-packed-one (more {r = r} {rs = rs} w f) none e = absurd (omega (arith, ap length e, packed-length [], packed-length (r ∷ rs)))
-packed-one (more {r = r} {rs = rs} w f) (more {r = q} {rs = qs} x g) e =
-    let b : bytes 20 (number r) ≡ bytes 20 (number q) = sym (first-packed r rs) ∙ ap (take 20) e ∙ first-packed q qs in
-    let d : packed rs ≡ packed qs = sym (rest-packed r rs) ∙ ap (drop 20) e ∙ rest-packed q qs in
-    cc (one-record (rw b at (packs w)) (packs x), packed-one f g d)
-
--- The bytes are one list of records at most.
-pub holds-one : {rs qs : List Record} {s : List ℕ} → Holds rs s → Holds qs s → rs ≡ qs
-holds-one h k = packed-one (h .formed) (k .formed) (sym (h .bytes) ∙ k .bytes)

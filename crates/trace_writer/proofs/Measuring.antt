@@ -1,12 +1,11 @@
 -- What the first pass keeps: the records up to `at` are well formed, and either all carried, and measured, or the first misfit is known.
-use Prim.Native.Nat.{ℕ, suc, _+_, _*_, _-_, _≤_, _<_}
+use Prim.Native.Nat.{ℕ, _+_, _*_, _≤_, _<_}
 use mathlib.Core.Path.{_≡_, refl, ap, sym, _∙_}
 use mathlib.Core.Logic.{_≢_}
 use mathlib.Core.List.{List, [], _∷_, _++_, append-assoc, append-nil}
 use native.Mathlib.Decide.{ℕ-discrete}
 use native.Mathlib.Omega.{arith}
-use lib.ListN.{length, take, drop, length-append, length-drop, drop-of-length-le}
-use lib.Seq.{take-at}
+use lib.ListN.{length, take, drop, length-append, drop-of-length-le}
 use Rattle.fields.specs.Columns.{lastNumber}
 use Rattle.record.specs.declared.Record.{Record}
 use Rattle.record.specs.Record.{WellFormed, Packs}
@@ -16,7 +15,7 @@ use Rattle.trace.specs.Promise.{packed}
 use Rattle.trace.specs.House.{rowsText, Each, none, more, Carried}
 use Rattle.trace.proofs.Packing.{packed-more}
 use Rattle.trace_writer.specs.declared.Size.the-variants as size
-use Rattle.trace_writer.specs.Promise.{Whole, Holds, FirstMalformed, FirstMisfit}
+use Rattle.trace_writer.specs.Promise.{Whole, FirstMisfit}
 use Rattle.trace_writer.specs.Passes.{ended, RowBytes, carried, misfit, MisfitAfter, Unfit, Measures}
 use Rattle.trace_writer.specs.Passes
 use Rattle.trace.proofs.HouseTexts.{rows-none}

@@ -1,9 +1,9 @@
 -- What the second pass keeps: the rows of the records up to `at` are put, and those of the rest are to come.
-use Prim.Native.Nat.{ℕ, suc, _+_, _*_, _≤_, _<_}
+use Prim.Native.Nat.{ℕ, _+_, _≤_, _<_}
 use mathlib.Core.Path.{_≡_, refl, ap, sym, _∙_}
 use mathlib.Core.List.{List, [], _∷_, _++_, append-assoc, append-nil}
 use native.Mathlib.Omega.{arith}
-use lib.ListN.{length, take, drop, length-append, length-drop, drop-of-length-le}
+use lib.ListN.{length, take, drop, length-append, length-drop}
 use lib.Seq.{drop-drop}
 use Rattle.base.specs.Wrote.{Wrote}
 use Rattle.base.proofs.Lists.{then}
@@ -14,12 +14,13 @@ use Rattle.record.proofs.OneRecord.{packs, one-record}
 use Rattle.row.specs.Answer.{Carries}
 use Rattle.row.specs.House.{rowText}
 use Rattle.trace.specs.Promise.{packed}
-use Rattle.trace.specs.House.{rowsText, Each, none, more, Carried}
+use Rattle.trace.specs.House.{rowsText, Each, more, Carried}
 use Rattle.trace.proofs.Packing.{packed-length}
 use Rattle.trace.proofs.HouseTexts.{rows-none, rows-more}
 use Rattle.trace_writer.specs.Promise.{Holds}
-use Rattle.trace_writer.specs.Passes.{ended, Fits, RowsPut}
-use Rattle.trace_writer.proofs.Lists.{each-head, each-tail, rows-snoc, first-packed, rest-packed, holds-one}
+use Rattle.trace_writer.specs.Passes.{Fits, RowsPut}
+use Rattle.trace_writer.proofs.Lists.{each-head, each-tail, rows-snoc, first-packed, rest-packed}
+use Rattle.trace_writer.proofs.Records.{holds-one}
 
 pub record Putting (version : ℕ) (s old out : List ℕ) (from at k p : ℕ) : Type 0 where
   pub before : List Record

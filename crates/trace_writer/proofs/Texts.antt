@@ -1,19 +1,15 @@
 -- The house texts by their parts, and how long they are.
-use Prim.Native.Nat.{ℕ, suc, _+_, _*_, _/_, _%_, _^_, _≤_, _<_}
-use mathlib.Core.Path.{_≡_, refl, ap, sym, _∙_}
-use mathlib.Core.List.{List, [], _∷_, _++_, append-assoc}
+use Prim.Native.Nat.{ℕ, _+_, _/_, _%_, _^_, _≤_, _<_}
+use mathlib.Core.Path.{_≡_}
+use mathlib.Core.List.{[], _∷_, _++_, append-assoc}
 use native.Mathlib.Omega.{arith}
 use lib.ListN.{length, length-append}
 use Rattle.digits.specs.House.{decimalText, paddedText, figureOf}
 use Rattle.digits.proofs.House.{length-fixed, few}
-use Rattle.clock.specs.Start.{dayMs, DayFraction}
-use Rattle.clock.proofs.Starts.{one-fraction}
+use Rattle.clock.specs.Start.{dayMs}
 use Rattle.lines.specs.Lines.{startText}
-use Rattle.record.specs.declared.Record.{Record}
-use Rattle.row.specs.House.{rowText}
-use Rattle.trace.specs.Trace.{Trace}
-use Rattle.trace.specs.House.{versionLineText, dayFraction, startLineText, rowsText, traceText}
-use Rattle.trace.proofs.HouseTexts.{version-line, start-line, trace-text}
+use Rattle.trace.specs.House.{versionLineText, dayFraction, startLineText}
+use Rattle.trace.proofs.HouseTexts.{version-line, start-line}
 use Rattle.trace_writer.specs.Passes.{ended, headText}
 
 -- What is put together in steps.

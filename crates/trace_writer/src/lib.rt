@@ -145,9 +145,9 @@ fn measure(version: u64, records: &[u8]) -> Size
     requires { ⌜ Whole (now records) ⌝ }
     ensures { λ m. ⌜ Measures version (now (records .entry)) m ⌝ }
 {
-    let mut at = 0;
+    let mut at: usize = 0;
     let mut k: u64 = 0;
-    let mut size = 0;
+    let mut size: usize = 0;
     let mut misfit: u64 = 0;
     while at < records.len() {
         k += 1;
@@ -182,8 +182,8 @@ fn put_rows(version: u64, records: &[u8], out: &mut [u8], from: usize)
     let mut p = from;
     while at < records.len() {
         k += 1;
-        let e = record_at(records, at);
-        let Entry::Is(r) = e else {
+        let next = record_at(records, at);
+        let Entry::Is(r) = next else {
             return;
         };
         let q = put_row(out, p, version, k, r);

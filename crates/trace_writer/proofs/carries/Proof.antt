@@ -1,8 +1,6 @@
 -- `trace_writer::carries` decides.
 use Prim.Native.Nat.{_%_}
-use mathlib.Core.Path.{_≡_}
 use native.Mathlib.Omega.{arith}
-use borrow.Author.Needs.{needs}
 use lib.Dec.{eqb}
 use Rattle.base.proofs.Tests.{same-test, equal}
 use Rattle.trace_writer.proofs.Carrying.{carried-11, carries-11, carried-12, carries-12}

@@ -1,5 +1,5 @@
 -- `trace_writer::put_rows` keeps: the rows of the records up to `at` are put.
-use Prim.Native.Nat.{_+_, _-_, _≤_}
+use Prim.Native.Nat.{_-_}
 use native.Mathlib.Omega.{arith}
 use borrow.Author.Needs.{needs}
 use lib.ListN.{length}
@@ -19,7 +19,7 @@ put-rows-spec =
     (tie.spec Inv-loop μ-loop
     (λ c. putting (c .before .before .pre))
     (λ c. let n = c .before .loop .inv .few in omega arith)
-    (λ c κs. next-whole (c .before .loop .inv) (c .loop-test .taken))
+    (λ c κs. let h = next-whole (c .before .loop .inv) (c .loop-test .taken) in omega arith)
     (λ c. search needs)
     (λ c. search needs)
     (λ c. c .before .before .before .before .loop .inv .same)
@@ -29,16 +29,17 @@ put-rows-spec =
     (λ c κs.
     let l = c .before .before .before .before .before .before .loop .inv in
     let t = c .before .before .before .before .before .loop-test .taken in
-    let r = rw (c .before .before .e .given .1) at (c .before .before .before .before .record-at .ensures) in
-    (next-row l t r, omega (arith, next-room l t r)))
+    let r = rw (c .before .before .next .given .1) at (c .before .before .before .before .record-at .ensures) in
+    let n = next-row l t r in
+    ((n .0, n .1, omega arith, omega arith), omega (arith, next-room l t r)))
     (λ c κs.
-    let r = rw (c .before .before .before .before .before .before .e .given .1) at (c .before .before .before .before .before .before .before .before .record-at .ensures) in
+    let r = rw (c .before .before .before .before .before .before .next .given .1) at (c .before .before .before .before .before .before .before .before .record-at .ensures) in
     omega (arith, next-room (c .before .before .before .before .before .before .before .before .before .before .loop .inv) (c .before .before .before .before .before .before .before .before .before .loop-test .taken) r, c .before .before .before .put-row .ensures .next))
     (λ c. let h = next-whole (c .before .before .before .before .before .before .before .before .before .before .before .before .before .loop .inv) (c .before .before .before .before .before .before .before .before .before .before .before .before .loop-test .taken) in omega arith)
     (λ c. let h = next-whole (c .before .before .before .before .before .before .before .before .before .before .before .before .before .loop .inv) (c .before .before .before .before .before .before .before .before .before .before .before .before .loop-test .taken) in omega arith)
     (λ c.
     let l = c .before .before .before .before .before .before .before .before .before .before .before .before .before .loop .inv in
-    let r = rw (c .before .before .before .before .before .before .before .before .before .e .given .1) at (c .before .before .before .before .before .before .before .before .before .before .before .record-at .ensures) in
+    let r = rw (c .before .before .before .before .before .before .before .before .before .next .given .1) at (c .before .before .before .before .before .before .before .before .before .before .before .record-at .ensures) in
     put-more l (c .before .before .before .before .before .before .before .before .before .before .before .before .loop-test .taken) r (c .before .before .before .before .before .before .put-row .ensures) (c .before .before .put-end .ensures) (omega (arith, l .same)))
     (λ c. c .before .loop .inv .same)
     (λ c. rows-put (c .before .loop .inv) (c .loop-test .left)))

@@ -4,7 +4,7 @@ use mathlib.Core.List.{[], _∷_}
 use native.Mathlib.Omega.{arith}
 use borrow.Author.Needs.{needs}
 use Rattle.base.proofs.Tests.{shown-not, refuted-not}
-use lib.ListN.{length, length-append}
+use lib.ListN.{length-append}
 use Rattle.row.specs.House.{rowText}
 use Rattle.row_writer.proofs.Longest.{longest}
 use Rattle.trace_writer.specs.Passes.{carried, misfit}

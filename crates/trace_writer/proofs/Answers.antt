@@ -1,0 +1,148 @@
+-- One answer: the promise of `write` leaves one answer and one output only, and says which traces are written.
+use Prim.Native.Nat.{ℕ, suc, _≤_}
+use mathlib.Core.Path.{_≡_, refl, ap, sym, _∙_}
+use mathlib.Core.Logic.{_≢_}
+use mathlib.Core.List.{List, [], _∷_, _++_}
+use native.Mathlib.Omega.{arith}
+use lib.ListN.{length, take, drop}
+use lib.Seq.{take-at}
+use Rattle.clock.specs.Start.{startLimit}
+use Rattle.record.specs.declared.Record.{Record}
+use Rattle.trace.specs.Promise.{packed}
+use Rattle.trace.specs.House.{traceText, Version, Each, none, more, Writable}
+use Rattle.trace.proofs.Packing.{packed-length}
+use Rattle.trace_writer.specs.declared.Written.the-variants as answer
+use Rattle.trace_writer.specs.Promise.{writeNumbers, Whole, Holds, FirstMalformed, FirstMisfit, Stopped, traceOf, WritePromise}
+use Rattle.trace_writer.proofs.Records.{holds-one, malformed-one, none-malformed}
+
+-- The first that has not P.
+each-at : {P : Record → Type 0} (before : List Record) (r : Record) (after : List Record) → Each P (before ++ (r ∷ after)) → P r
+each-at [] r after (more p f) = p
+each-at (q ∷ before) r after (more p f) = each-at before r after f
+
+first-one : {P : Record → Type 0} {a b : List Record} (r q : Record) (c d : List Record) → Each P a → Each P b → (P r → ⊥) → (P q → ⊥)
+    → a ++ (r ∷ c) ≡ b ++ (q ∷ d) → length a ≡ length b
+first-one r q c d none none f g e = refl
+first-one r q c d none (more {r = k} p b) f g e = let z : r ≡ k = cc in absurd (f (rw z p))
+first-one r q c d (more {r = k} p a) none f g e = let z : q ≡ k = cc in absurd (g (rw z p))
+first-one r q c d (more p a) (more o b) f g e = ap suc (first-one r q c d a b f g (cc))
+
+misfit-one : {version p q : ℕ} {rs : List Record} → FirstMisfit version rs p → FirstMisfit version rs q → p ≡ q
+misfit-one f g =
+    let l = first-one (f .this) (g .this) (f .after) (g .after) (f .carried) (g .carried) (f .misfit) (g .misfit) (sym (f .whole) ∙ g .whole) in
+    omega (arith, f .at, g .at, l)
+
+-- Refusals 20 to 24 have one number at one place.
+pub stopped-one : {version start a b p q : ℕ} {s : List ℕ} → Stopped version start s a p → Stopped version start s b q
+    → (a ≡ b) × (p ≡ q)
+stopped-one (Stopped.no-records f) (Stopped.no-records g) = (refl, refl)
+stopped-one (Stopped.no-records f) (Stopped.no-version w g) = absurd (f w)
+stopped-one (Stopped.no-records f) (Stopped.late w v l) = absurd (f w)
+stopped-one (Stopped.no-records f) (Stopped.malformed w v l g) = absurd (f w)
+stopped-one (Stopped.no-records f) (Stopped.misfit w v l h g) = absurd (f w)
+stopped-one (Stopped.no-version x f) (Stopped.no-records g) = absurd (g x)
+stopped-one (Stopped.no-version x f) (Stopped.no-version w g) = (refl, refl)
+stopped-one (Stopped.no-version x f) (Stopped.late w v l) = absurd (f v)
+stopped-one (Stopped.no-version x f) (Stopped.malformed w v l g) = absurd (f v)
+stopped-one (Stopped.no-version x f) (Stopped.misfit w v l h g) = absurd (f v)
+stopped-one (Stopped.late x u k) (Stopped.no-records g) = absurd (g x)
+stopped-one (Stopped.late x u k) (Stopped.no-version w g) = absurd (g u)
+stopped-one (Stopped.late x u k) (Stopped.late w v l) = (refl, refl)
+stopped-one (Stopped.late x u k) (Stopped.malformed w v l g) = absurd (omega arith)
+stopped-one (Stopped.late x u k) (Stopped.misfit w v l h g) = absurd (omega arith)
+stopped-one (Stopped.malformed x u k f) (Stopped.no-records g) = absurd (g x)
+stopped-one (Stopped.malformed x u k f) (Stopped.no-version w g) = absurd (g u)
+stopped-one (Stopped.malformed x u k f) (Stopped.late w v l) = absurd (omega arith)
+stopped-one (Stopped.malformed x u k f) (Stopped.malformed w v l g) = (refl, malformed-one f g)
+stopped-one (Stopped.malformed x u k f) (Stopped.misfit w v l h g) = absurd (none-malformed h f)
+stopped-one (Stopped.misfit x u k i f) (Stopped.no-records g) = absurd (g x)
+stopped-one (Stopped.misfit x u k i f) (Stopped.no-version w g) = absurd (g u)
+stopped-one (Stopped.misfit x u k i f) (Stopped.late w v l) = absurd (omega arith)
+stopped-one (Stopped.misfit x u k i f) (Stopped.malformed w v l g) = absurd (none-malformed i g)
+stopped-one (Stopped.misfit x u k i f) (Stopped.misfit w v l h g) = (refl, misfit-one (rw (holds-one i h) at f) g)
+
+-- They are 20 to 24.
+stopped-numbers : {version start n p : ℕ} {s : List ℕ} → Stopped version start s n p → (20 ≤ n) × (n ≤ 24)
+stopped-numbers (Stopped.no-records f) = (omega arith, omega arith)
+stopped-numbers (Stopped.no-version w f) = (omega arith, omega arith)
+stopped-numbers (Stopped.late w v l) = (omega arith, omega arith)
+stopped-numbers (Stopped.malformed w v l f) = (omega arith, omega arith)
+stopped-numbers (Stopped.misfit w v l h f) = (omega arith, omega arith)
+
+module _ {version start : ℕ} {rs : List Record} {s : List ℕ} (w : Writable (traceOf version start rs)) (e : s ≡ packed rs) where
+  held : Holds rs s
+  held = record { formed = w .formed; bytes = e }
+
+  whole : Whole s
+  whole =
+      let l = ap length e ∙ packed-length rs in
+      record { twenties = omega arith; few = omega (arith, w .few) }
+
+  -- What can be written is none of them.
+  not-stopped : {n p : ℕ} → Stopped version start s n p → ⊥
+  not-stopped (Stopped.no-records f) = f whole
+  not-stopped (Stopped.no-version x f) = f (w .version)
+  not-stopped (Stopped.late x v l) = omega (arith, w .start)
+  not-stopped (Stopped.malformed x v l f) = none-malformed held f
+  not-stopped (Stopped.misfit x v l h f) =
+      f .misfit (each-at (f .before) (f .this) (f .after) (rw (holds-one held h ∙ f .whole) at (w .carried)))
+
+  -- The records are the only ones.
+  same-records : {qs : List Record} → Writable (traceOf version start qs) → s ≡ packed qs → rs ≡ qs
+  same-records x d = holds-one held (record { formed = x .formed; bytes = d })
+
+-- The promise leaves one answer and one output only.
+pub one-write : {version start : ℕ} {s before a b x y : List ℕ} → WritePromise version start s before a x
+    → WritePromise version start s before b y → (a ≡ b) × (x ≡ y)
+one-write (WritePromise.refused f e q) (WritePromise.refused g d r) =
+    let z = stopped-one f g in
+    (e ∙ cc (z .0, z .1) ∙ sym d, q ∙ sym r)
+one-write (WritePromise.refused f e q) (WritePromise.no-room w i l d r) = absurd (not-stopped w i f)
+one-write (WritePromise.refused f e q) (WritePromise.done w i l d r) = absurd (not-stopped w i f)
+one-write (WritePromise.no-room w i l e q) (WritePromise.refused g d r) = absurd (not-stopped w i g)
+one-write (WritePromise.no-room w i l e q) (WritePromise.no-room x j k d r) = (e ∙ sym d, q ∙ sym r)
+one-write {version} {start} (WritePromise.no-room w i l e q) (WritePromise.done x j k d r) =
+    absurd (omega (arith, ap (λ (rs : List Record). length (traceText (traceOf version start rs))) (same-records w i x j)))
+one-write (WritePromise.done w i l e q) (WritePromise.refused g d r) = absurd (not-stopped w i g)
+one-write {version} {start} (WritePromise.done w i l e q) (WritePromise.no-room x j k d r) =
+    absurd (omega (arith, ap (λ (rs : List Record). length (traceText (traceOf version start rs))) (same-records w i x j)))
+one-write {version} {start} {before = before} (WritePromise.done w i l e q) (WritePromise.done x j k d r) =
+    let z = ap (λ (rs : List Record). traceText (traceOf version start rs)) (same-records w i x j) in (
+      e ∙ ap (λ (t : List ℕ). writeNumbers (answer.Done (length t))) z ∙ sym d,
+      q ∙ ap (λ (t : List ℕ). t ++ drop (length t) before) z ∙ sym r,
+    )
+
+-- What can be written is written, where there is room.
+pub writes : {version start : ℕ} {rs : List Record} {before a x : List ℕ} → Writable (traceOf version start rs)
+    → length (traceText (traceOf version start rs)) ≤ length before → WritePromise version start (packed rs) before a x
+    → (a ≡ writeNumbers (answer.Done (length (traceText (traceOf version start rs)))))
+    × (x ≡ traceText (traceOf version start rs) ++ drop (length (traceText (traceOf version start rs))) before)
+writes w l p = one-write p (WritePromise.done w refl l refl refl)
+
+-- And only that is: the records are those of the bytes.
+pub written : {version start m : ℕ} {s before x : List ℕ} → WritePromise version start s before (writeNumbers (answer.Done m)) x
+    → (rs : List Record) × Writable (traceOf version start rs) × (s ≡ packed rs) × (m ≡ length (traceText (traceOf version start rs)))
+    × (x ≡ traceText (traceOf version start rs) ++ drop (length (traceText (traceOf version start rs))) before)
+written (WritePromise.refused {n = n} f e q) = let z : 0 ≡ n = cc in absurd (omega (arith, stopped-numbers f .0))
+written (WritePromise.no-room w i l e q) = let z : _≡_ {A = ℕ} 0 25 = cc in absurd (omega arith)
+written (WritePromise.done {rs = rs} w i l e q) = (rs, w, i, cc, q)
+
+-- With a refusal the output is what it was.
+pub untouched : {version start number p : ℕ} {s before x : List ℕ} → number ≢ 0
+    → WritePromise version start s before (writeNumbers (answer.Refused number p)) x → x ≡ before
+untouched f (WritePromise.refused g e q) = q
+untouched f (WritePromise.no-room w i l e q) = q
+untouched {number = number} f (WritePromise.done w i l e q) = let z : number ≡ 0 = cc in absurd (f z)
+
+-- 23 is tested over all records before 24: where some record is not well formed, the first such is the answer.
+pub malformed-first : {version start p : ℕ} {s before a x : List ℕ} → Whole s → Version version → start ≤ startLimit → FirstMalformed s p
+    → WritePromise version start s before a x → a ≡ writeNumbers (answer.Refused 23 p)
+malformed-first w v l f q = one-write q (WritePromise.refused (Stopped.malformed w v l f) refl refl) .0
+
+-- A writer that does nothing breaks the promise: the output that it leaves starts with the house spelling only if it did before.
+pub not-nothing : {version start m : ℕ} {s before : List ℕ} → WritePromise version start s before (writeNumbers (answer.Done m)) before
+    → (rs : List Record) × (s ≡ packed rs) × (take m before ≡ traceText (traceOf version start rs))
+not-nothing {version} {start} {m} {before = before} p =
+    let w = written p in
+    let t = traceText (traceOf version start (w .0)) in
+    (w .0, w .2, ap (take m) (w .4) ∙ take-at t (drop (length t) before) m (sym (w .3)))
