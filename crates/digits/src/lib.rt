@@ -140,7 +140,7 @@ pub fn put_padded(out: &mut [u8], at: usize, w: usize, n: u64) -> usize
 }
 
 // The byte of a hexadecimal digit.
-fn glyph(letters: Letters, d: u8) -> u8
+pub fn glyph(letters: Letters, d: u8) -> u8
     requires { ⌜ d < 16 ⌝ }
     ensures { λ r. ⌜ r ≡ glyphOf letters d ⌝ }
 {

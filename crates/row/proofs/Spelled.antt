@@ -35,7 +35,7 @@ byte-spelled n = hex-spells Capital 2 (n % 256) (omega arith)
 
 -- n bytes of a number, from the one at 256 ^ m on, below which it is zero.
 bytes-spelled : (Then : List (List ℕ) → Type 0) → Then [] → (whole n m place u : ℕ) → place ≡ 256 ^ m → n ≤ suc m
-    → whole % 256 ^ (suc m - n) ≡ 0 → u ≡ whole % 256 ^ suc m → Row.ByteFields Then place n u (byteTexts place n whole)
+    → whole % 256 ^ (suc m - n) ≡ 0 → u ≡ whole % 256 ^ suc m → Row.ByteFields Then place n u (byteTexts Capital place n whole)
 bytes-spelled Then t whole zero m place u p l z e =
     let c : u ≡ 0 = e ∙ rw sub-zero at z in
     rw (c, bytes-none) (Row.done t)
@@ -103,8 +103,8 @@ module _ {r : Record} (w : WellFormed r) where
       (Row.frame-length (length-spelled (r .len) (r .len) refl (w .len)) d))
 
   -- four bytes, of a warning or an error frame
-  four-bytes : r .kind / 2 ≢ 1 → r .len ≡ 4 → dataTexts r ≡ byteTexts (256 ^ 7) 4 (r .«data»)
-  four-bytes n l = data-bytes r n ∙ ap (λ (k : ℕ). byteTexts (256 ^ 7) k (r .«data»)) l
+  four-bytes : r .kind / 2 ≢ 1 → r .len ≡ 4 → dataTexts r ≡ byteTexts Capital (256 ^ 7) 4 (r .«data»)
+  four-bytes n l = data-bytes r n ∙ ap (λ (k : ℕ). byteTexts Capital (256 ^ 7) k (r .«data»)) l
 
   four-zero : r .len ≡ 4 → r .«data» % 256 ^ 4 ≡ 0
   four-zero l = ap (λ (k : ℕ). r .«data» % 256 ^ (8 - k)) (sym l) ∙ w .past

@@ -86,12 +86,12 @@ pub id-warning : (r : Record) → r .kind ≡ 4 → idText r ≡ hexText Capital
 unfolding idText
 id-warning r e = rw (eq-eqb (r .kind) 4 e)
 
-pub bytes-none : (place sum : ℕ) → byteTexts place 0 sum ≡ []
+pub bytes-none : (place sum : ℕ) → byteTexts Capital place 0 sum ≡ []
 unfolding byteTexts
 bytes-none place sum = refl
 
-pub bytes-more : (place n sum : ℕ) → byteTexts place (suc n) sum
-    ≡ hexText Capital 2 (sum / place % 256) ∷ byteTexts (place / 256) n sum
+pub bytes-more : (place n sum : ℕ) → byteTexts Capital place (suc n) sum
+    ≡ hexText Capital 2 (sum / place % 256) ∷ byteTexts Capital (place / 256) n sum
 unfolding byteTexts
 bytes-more place n sum = refl
 
@@ -99,7 +99,7 @@ pub data-remote : (r : Record) → r .kind / 2 ≡ 1 → dataTexts r ≡ remoteT
 unfolding dataTexts
 data-remote r e = rw (eq-eqb (r .kind / 2) 1 e)
 
-pub data-bytes : (r : Record) → r .kind / 2 ≢ 1 → dataTexts r ≡ byteTexts (256 ^ 7) (r .len) (r .«data»)
+pub data-bytes : (r : Record) → r .kind / 2 ≢ 1 → dataTexts r ≡ byteTexts Capital (256 ^ 7) (r .len) (r .«data»)
 unfolding dataTexts
 data-bytes r n = rw (ne-eqb (r .kind / 2) 1 n)
 
@@ -166,7 +166,7 @@ id-size r h = go (ℕ-discrete (r .kind) 4)
     go (yes e) = rw (id-warning r e) (hex-fits 8 0xFFFFFFFF (omega arith))
     go (no n) = let s = hex-fits (4 + 4 * r .extended) (r .id) (omega arith) in rw (id-frame r n) (s .0, omega arith)
 
-bytes-size : (place n sum : ℕ) → Sized (3 * n) (byteTexts place n sum)
+bytes-size : (place n sum : ℕ) → Sized (3 * n) (byteTexts Capital place n sum)
 bytes-size place zero sum = rw bytes-none nil
 bytes-size place (suc n) sum =
     let s = hex-fits 2 (sum / place % 256) (omega arith) in

@@ -4,6 +4,7 @@ use mathlib.Core.Bool.{cond}
 use mathlib.Core.List.{List, [], _∷_, _++_}
 use lib.Dec.{eqb}
 use lib.ListN.{getD}
+use Rattle.digits.specs.declared.Letters.{Letters}
 use Rattle.digits.specs.declared.Letters.the-variants.{Capital}
 use Rattle.digits.specs.House.{decimalText, paddedText, hexText}
 use Rattle.record.specs.declared.Record.{Record}
@@ -42,14 +43,14 @@ markText kind = getD marks kind []
 unfoldable pub idText : Record → List ℕ
 idText r = cond (eqb (r .kind) 4) (hexText Capital 8 0xFFFFFFFF) (hexText Capital (4 + 4 * r .extended) (r .id))
 
--- n bytes, the first of them with this place value.
-unfoldable pub byteTexts : ℕ → ℕ → ℕ → List (List ℕ)
-byteTexts place zero sum = []
-byteTexts place (suc n) sum = hexText Capital 2 (sum / place % 256) ∷ byteTexts (place / 256) n sum
+-- n bytes, the first of them with this place value, each in two digits.
+unfoldable pub byteTexts : Letters → ℕ → ℕ → ℕ → List (List ℕ)
+byteTexts letters place zero sum = []
+byteTexts letters place (suc n) sum = hexText letters 2 (sum / place % 256) ∷ byteTexts letters (place / 256) n sum
 
 -- `RTR` for a remote frame, else the bytes.
 unfoldable pub dataTexts : Record → List (List ℕ)
-dataTexts r = cond (eqb (r .kind / 2) 1) (remoteText ∷ []) (byteTexts (256 ^ 7) (r .len) (r .«data»))
+dataTexts r = cond (eqb (r .kind / 2) 1) (remoteText ∷ []) (byteTexts Capital (256 ^ 7) (r .len) (r .«data»))
 
 -- The fields of the row with number k and record r in version v.
 unfoldable pub rowTexts : ℕ → ℕ → Record → List (List ℕ)

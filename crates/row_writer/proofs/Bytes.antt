@@ -8,29 +8,29 @@ use lib.Pow.{pow-add, shl-shr}
 use lib.ListN.{length, length-append}
 use Rattle.base.specs.Wrote.{Wrote}
 use Rattle.base.proofs.Lists.{then}
-use Rattle.digits.specs.declared.Letters.the-variants.{Capital}
+use Rattle.digits.specs.declared.Letters.{Letters}
 use Rattle.digits.specs.House.{glyphOf, hexText}
 use Rattle.digits.proofs.House.{fixed-zero, fixed-step, length-fixed}
 use Rattle.row.specs.House.{byteTexts}
 use Rattle.row_writer.specs.Parts.{spaced}
 use Rattle.row_writer.proofs.Rows.{spaced-none, spaced-more, spaced-append}
 
-pub two-digits : (b : ℕ) → b < 256 → hexText Capital 2 b ≡ glyphOf Capital (b / 16) ∷ glyphOf Capital (b % 16) ∷ []
-two-digits b h =
+pub two-digits : (x : Letters) (b : ℕ) → b < 256 → hexText x 2 b ≡ glyphOf x (b / 16) ∷ glyphOf x (b % 16) ∷ []
+two-digits x b h =
     let e : b / 16 % 16 ≡ b / 16 = omega arith in
     rw (fixed-step, fixed-step, fixed-zero, e)
 
-none : (place sum : ℕ) → spaced (byteTexts place 0 sum) ≡ []
+none : (x : Letters) (place sum : ℕ) → spaced (byteTexts x place 0 sum) ≡ []
 unfolding byteTexts
-none place sum = spaced-none
+none x place sum = spaced-none
 
 -- the last of n + 1 bytes
-last : (place n sum : ℕ) → byteTexts place (suc n) sum ≡ byteTexts place n sum ++ (hexText Capital 2 (sum / (place / 256 ^ n) % 256) ∷ [])
+last : (x : Letters) (place n sum : ℕ) → byteTexts x place (suc n) sum ≡ byteTexts x place n sum ++ (hexText x 2 (sum / (place / 256 ^ n) % 256) ∷ [])
 unfolding byteTexts
-last place zero sum = rw (pow-zero, div-one)
-last place (suc n) sum =
+last x place zero sum = rw (pow-zero, div-one)
+last x place (suc n) sum =
     let e : place / 256 / 256 ^ n ≡ place / 256 ^ suc n = rw (div-div-eq-div-mul, mul-comm, ← pow-suc) in
-    ap (λ (l : List (List ℕ)). hexText Capital 2 (sum / place % 256) ∷ l) (rw e at (last (place / 256) n sum))
+    ap (λ (l : List (List ℕ)). hexText x 2 (sum / place % 256) ∷ l) (rw e at (last x (place / 256) n sum))
 
 bits : (k : ℕ) → 256 ^ k ≡ 2 ^ (k * 8)
 bits zero = refl
@@ -43,26 +43,26 @@ place n h =
     let a : 2 ^ 56 ≡ 2 ^ (56 - 8 * n) * 2 ^ (n * 8) = ap (λ (m : ℕ). 2 ^ m) (sym e) ∙ pow-add 2 (56 - 8 * n) (n * 8) in
     ap (λ (m : ℕ). m / 256 ^ n) a ∙ rw (bits n) (shl-shr (2 ^ (56 - 8 * n)) (n * 8))
 
-more : (n sum : ℕ) → n < 8
-    → spaced (byteTexts (256 ^ 7) (suc n) sum) ≡ spaced (byteTexts (256 ^ 7) n sum) ++ (32 ∷ hexText Capital 2 (sum / 2 ^ (56 - 8 * n) % 256))
-more n sum h =
-    rw (last, place n h, spaced-append, spaced-more, spaced-none, append-nil (hexText Capital 2 (sum / 2 ^ (56 - 8 * n) % 256)))
+more : (x : Letters) (n sum : ℕ) → n < 8
+    → spaced (byteTexts x (256 ^ 7) (suc n) sum) ≡ spaced (byteTexts x (256 ^ 7) n sum) ++ (32 ∷ hexText x 2 (sum / 2 ^ (56 - 8 * n) % 256))
+more x n sum h =
+    rw (last, place n h, spaced-append, spaced-more, spaced-none, append-nil (hexText x 2 (sum / 2 ^ (56 - 8 * n) % 256)))
 
 -- Before byte i, counted from 1, stand those before it.
 
-pub put-none : (at sum : ℕ) (l : List ℕ) → Wrote l l at at (spaced (byteTexts (256 ^ 7) (1 - 1) sum))
-put-none at sum l = rw none (record { next = sym (add-zero at); stored = refl })
+pub put-none : (x : Letters) (at sum : ℕ) (l : List ℕ) → Wrote l l at at (spaced (byteTexts x (256 ^ 7) (1 - 1) sum))
+put-none x at sum l = rw none (record { next = sym (add-zero at); stored = refl })
 
-pub put-more : {l a b : List ℕ} {at p q : ℕ} (i sum : ℕ) → 1 ≤ i → i ≤ 8 → Wrote l a at p (spaced (byteTexts (256 ^ 7) (i - 1) sum))
-    → Wrote a b p q (32 ∷ hexText Capital 2 (sum / 2 ^ (64 - 8 * i) % 256)) → Wrote l b at q (spaced (byteTexts (256 ^ 7) (i + 1 - 1) sum))
-put-more zero sum h k w v = absurd (omega arith)
-put-more (suc n) sum h k w v =
+pub put-more : {l a b : List ℕ} {at p q : ℕ} (x : Letters) (i sum : ℕ) → 1 ≤ i → i ≤ 8 → Wrote l a at p (spaced (byteTexts x (256 ^ 7) (i - 1) sum))
+    → Wrote a b p q (32 ∷ hexText x 2 (sum / 2 ^ (64 - 8 * i) % 256)) → Wrote l b at q (spaced (byteTexts x (256 ^ 7) (i + 1 - 1) sum))
+put-more x zero sum h k w v = absurd (omega arith)
+put-more x (suc n) sum h k w v =
     let e : suc n - 1 ≡ n = omega arith in
     let f : suc n + 1 - 1 ≡ suc n = omega arith in
     let g : 64 - 8 * suc n ≡ 56 - 8 * n = omega arith in
-    rw (f, more n sum (omega arith)) (then (rw e at w) (rw g at v))
+    rw (f, more x n sum (omega arith)) (then (rw e at w) (rw g at v))
 
-pub length-bytes : (place n sum : ℕ) → length (spaced (byteTexts place n sum)) ≡ 3 * n
+pub length-bytes : (x : Letters) (place n sum : ℕ) → length (spaced (byteTexts x place n sum)) ≡ 3 * n
 unfolding byteTexts
-length-bytes place zero sum = rw spaced-none
-length-bytes place (suc n) sum = rw (spaced-more, length-append, length-fixed, length-bytes (place / 256) n sum) (omega arith)
+length-bytes x place zero sum = rw spaced-none
+length-bytes x place (suc n) sum = rw (spaced-more, length-append, length-fixed, length-bytes x (place / 256) n sum) (omega arith)

@@ -113,6 +113,6 @@ pub remote-data : (r : Record) → r .kind / 2 ≡ 1 → spaced (dataTexts r) �
 unfolding dataTexts
 remote-data r e = rw (eq-eqb (r .kind / 2) 1 e, spaced-more, spaced-none)
 
-pub frame-data : (r : Record) → (r .kind / 2 ≡ 1 → ⊥) → dataTexts r ≡ byteTexts (256 ^ 7) (r .len) (r .«data»)
+pub frame-data : (r : Record) → (r .kind / 2 ≡ 1 → ⊥) → dataTexts r ≡ byteTexts Capital (256 ^ 7) (r .len) (r .«data»)
 unfolding dataTexts
 frame-data r f = rw (ne-eqb (r .kind / 2) 1 f)

@@ -1,18 +1,17 @@
 -- A row has at most 64 bytes.
-use Prim.Native.Nat.{ℕ, suc, _+_, _*_, _/_, _^_, _≤_, _<_}
+use Prim.Native.Nat.{ℕ, _+_, _*_, _/_, _^_, _≤_, _<_}
 use mathlib.Core.Path.{_≡_, ap}
 use mathlib.Core.Logic.{⊎-elim}
-use mathlib.Core.List.{List, [], _∷_}
 use native.Mathlib.Decide.{ℕ-discrete}
 use native.Mathlib.Omega.{arith}
 use lib.ListN.{length}
 use Rattle.base.proofs.Numbers.{below-or-not}
 use Rattle.digits.specs.declared.Letters.the-variants.{Capital}
-use Rattle.digits.specs.House.{glyphOf, decimalText}
+use Rattle.digits.specs.House.{glyphOf}
 use Rattle.digits.proofs.House.{length-fixed, few}
 use Rattle.record.specs.declared.Record.{Record}
 use Rattle.record.specs.Record.{WellFormed}
-use Rattle.row.specs.House.{fractionDigits, offsetText, busTexts, markText, idText, dataTexts, rowText}
+use Rattle.row.specs.House.{fractionDigits, busTexts, markText, idText, dataTexts, rowText}
 use Rattle.row_writer.specs.Parts.{spaced}
 use Rattle.row_writer.proofs.Rows.{row-length, head-length, frame-length}
 use Rattle.row_writer.proofs.Columns.{length-number, length-offset, digits-11, digits-12, bus-11, bus-12, short-mark, long-mark, warning-id, frame-id, remote-data, frame-data}
@@ -30,7 +29,7 @@ id r h =
     elim (ℕ-discrete (r .kind) 4) [ yes e ↦ omega (arith, ap length (warning-id r e), length-fixed (glyphOf Capital) 16 8 0xFFFFFFFF) | no f ↦ omega (arith, ap length (frame-id r f), length-fixed (glyphOf Capital) 16 (4 + 4 * r .extended) (r .id)) ]
 
 bytes : (r : Record) → (r .kind / 2 ≡ 1 → ⊥) → length (spaced (dataTexts r)) ≡ 3 * r .len
-bytes r f = omega (arith, ap (λ fs. length (spaced fs)) (frame-data r f), length-bytes (256 ^ 7) (r .len) (r .«data»))
+bytes r f = omega (arith, ap (λ fs. length (spaced fs)) (frame-data r f), length-bytes Capital (256 ^ 7) (r .len) (r .«data»))
 
 data-most : (r : Record) → r .len ≤ 8 → length (spaced (dataTexts r)) ≤ 24
 data-most r h = elim (ℕ-discrete (r .kind / 2) 1) [ yes e ↦ omega (arith, ap length (remote-data r e)) | no f ↦ omega (arith, bytes r f) ]

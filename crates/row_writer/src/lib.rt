@@ -2,16 +2,17 @@
 use base::put_byte;
 use digits::Letters;
 use digits::decimal_length;
+use digits::glyph;
 use digits::put_decimal;
 use digits::put_hex;
 use digits::put_padded;
 use record::Record;
 ghost use mathlib.Core.Path.{_≡_};
-ghost use mathlib.Core.List.{[], _∷_, _++_};
+ghost use mathlib.Core.List.{[], _∷_};
 ghost use Prim.Native.Nat.{_+_, _*_, _^_, _≤_, _<_};
 ghost use lib.ListN.{length};
 ghost use Rattle.base.specs.Wrote.{Wrote};
-ghost use Rattle.digits.specs.House.{glyphOf, hexText};
+ghost use Rattle.digits.specs.House.{hexText};
 ghost use Rattle.record.specs.Record.{WellFormed};
 ghost use Rattle.row.specs.Answer.{Carries};
 ghost use Rattle.row.specs.House.{joined, numberText, offsetText, busTexts, markText, idText, byteTexts, dataTexts, rowText};
@@ -144,36 +145,25 @@ fn id_length(r: Record) -> usize
     5
 }
 
-// The byte of a hexadecimal digit, in capitals.
-fn capital_digit(d: u64) -> u8
-    requires { ⌜ d < 16 ⌝ }
-    ensures { λ r. ⌜ r ≡ glyphOf Letters.Capital d ⌝ }
-{
-    if d < 10 {
-        return 48 + d as u8;
-    }
-    65 + (d - 10) as u8
-}
-
 // One data byte. Both digits are put at once: the calls of `put_hex` for each would double the time that a row takes.
-fn put_data_byte(out: &mut [u8], at: usize, b: u64) -> usize
+fn put_data_byte(out: &mut [u8], at: usize, b: u64, letters: Letters) -> usize
     requires { ⌜ (b < 256) × (at + 3 ≤ length (now out)) ⌝ }
-    ensures { λ r. ⌜ Wrote (now (out .entry)) (now (out .exit)) at r (32 ∷ hexText Letters.Capital 2 b) ⌝ }
+    ensures { λ r. ⌜ Wrote (now (out .entry)) (now (out .exit)) at r (32 ∷ hexText letters 2 b) ⌝ }
 {
-    let high = capital_digit(b / 16);
-    let low = capital_digit(b % 16);
+    let high = glyph(letters, (b / 16) as u8);
+    let low = glyph(letters, (b % 16) as u8);
     put_three(out, at, 32, high, low)
 }
 
-// The first n of eight data bytes.
-fn put_bytes(out: &mut [u8], at: usize, n: u64, word: u64) -> usize
+// The first n of eight data bytes, each behind one blank.
+pub fn put_bytes(out: &mut [u8], at: usize, n: u64, word: u64, letters: Letters) -> usize
     requires { ⌜ (n ≤ 8) × (at + 3 * n ≤ length (now out)) ⌝ }
-    ensures { λ r. ⌜ Wrote (now (out .entry)) (now (out .exit)) at r (spaced (byteTexts (256 ^ 7) n word)) ⌝ }
+    ensures { λ r. ⌜ Wrote (now (out .entry)) (now (out .exit)) at r (spaced (byteTexts letters (256 ^ 7) n word)) ⌝ }
 {
     let mut p = at;
     let mut i: u64 = 1;
     while i <= n {
-        p = put_data_byte(out, p, (word >> (64 - 8 * i)) % 256);
+        p = put_data_byte(out, p, (word >> (64 - 8 * i)) % 256, letters);
         i += 1;
     }
     p
@@ -188,7 +178,7 @@ fn put_data(out: &mut [u8], at: usize, r: Record) -> usize
         let p = put_byte(out, at, 32);
         return put_three(out, p, 82, 84, 82);
     }
-    put_bytes(out, at, r.len, r.data)
+    put_bytes(out, at, r.len, r.data, Letters::Capital)
 }
 
 fn data_length(r: Record) -> usize

@@ -6,6 +6,7 @@ use borrow.Author.Needs.{needs}
 use lib.ListN.{length}
 use Rattle.base.proofs.Lists.{then}
 use Rattle.row_writer.specs.Parts.{spaced}
+use Rattle.digits.specs.declared.Letters.the-variants.{Capital}
 use Rattle.row_writer.proofs.Columns.{remote-data, frame-data}
 use Rattle.row_writer.proofs.Bytes.{length-bytes}
 use Rattle.row_writer.proofs.put_data.Statement.{statement}
@@ -23,7 +24,7 @@ put-data-spec =
     rw e (then (p .put-byte .ensures) (c .before .before .put-three .ensures)))
     (λ c κs.
     let r = c .before .before .before .before .args .r in
-    omega (arith, ap (λ fs. length (spaced fs)) (frame-data r (c .before .if1 .left)), length-bytes (256 ^ 7) (r .len) (r .«data»)))
+    omega (arith, ap (λ fs. length (spaced fs)) (frame-data r (c .before .if1 .left)), length-bytes Capital (256 ^ 7) (r .len) (r .«data»)))
     (λ c. search needs)
     (λ c.
     let t = c .before .before .before .before in
