@@ -13,12 +13,11 @@ use Rattle.trace.specs.Promise.{packed, readNumbers, ReadPromise}
 use Rattle.trace.proofs.One.{one-trace}
 use Rattle.trace.proofs.Answers.{refused-numbers}
 use Rattle.trace.proofs.HouseTexts.{trace-text}
-use Rattle.trace.proofs.Packing.{packed-length}
 use Rattle.trace.proofs.There.{read-writable}
 use Rattle.trace_writer.specs.declared.Written.the-variants as written
 use Rattle.trace_writer.specs.Promise.{writeNumbers, traceOf, WritePromise}
 use Rattle.trace_writer.proofs.Answers as answers
-use Rattle.trace_writer.proofs.Again.{read-done, read-writes, again}
+use Rattle.trace_writer.proofs.Again.{read-done, read-within, read-writes, again}
 use Rattle.there_and_back.specs.Promise.{AgainPromise, same, unread, no-page}
 
 -- The number of a refusal of `read` is not 0.
@@ -51,13 +50,6 @@ written-within {version} {start} {page = page} q =
 
 module _ {version start rows steps : ℕ} {text records x : List ℕ}
     (p : ReadPromise text records (readNumbers (outcome.Done version start rows steps)) x) where
-  -- The records are in their space.
-  pub read-within : 20 * rows ≤ length x
-  read-within =
-      let r = read-done p in
-      let rs = r .records in
-      omega (arith, r .counted, packed-length rs, ap length (r .filled), length-append (packed rs) (drop (20 * length rs) records))
-
   -- What the reading says of the trace of the text.
   of-trace : {t : Trace} → Spells t text
       → (20 * length (t .records) ≤ length records) × (x ≡ packed (t .records) ++ drop (20 * length (t .records)) records)
@@ -74,7 +66,7 @@ module _ {version start rows steps : ℕ} {text records x : List ℕ}
       go : Dec (length (traceText (read-writes p q .0)) ≤ length page) → AgainPromise text records page d z y
       go (yes l) =
           let w = read-writes p q in
-          let a = again p q read-within g in
+          let a = again p q (read-within p) g in
           let e : z ≡ x = a .1 ∙ take-append-drop (20 * rows) x in
           same (read-done p .size) (w .1) (of-trace (w .1) .0) l (rw (a .0, e) p) (w .2 l .1)
       go (no f) =

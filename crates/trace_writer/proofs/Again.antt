@@ -3,7 +3,7 @@ use Prim.Native.Nat.{ℕ, _*_, _≤_, _<_}
 use mathlib.Core.Path.{_≡_, refl, ap, sym, _∙_}
 use mathlib.Core.List.{List, _++_}
 use native.Mathlib.Omega.{arith}
-use lib.ListN.{length, take, drop}
+use lib.ListN.{length, take, drop, length-append}
 use lib.Seq.{take-at}
 use Rattle.record.specs.declared.Record.{Record}
 use Rattle.trace.specs.declared.Outcome.the-variants as outcome
@@ -73,6 +73,14 @@ read-done {version} {start} {rows} {out = out} (ReadPromise.done {t = t} h s r e
     }
 read-done (ReadPromise.no-room h s r e q) = let z : _≡_ {A = ℕ} 0 8 = cc in absurd (omega arith)
 read-done (ReadPromise.refused {n = n} h f e q) = let z : 0 ≡ n = cc in absurd (omega (arith, refused-numbers f .0))
+
+-- The records are in their space.
+pub read-within : {version start rows steps : ℕ} {text out x : List ℕ} → ReadPromise text out (readNumbers (outcome.Done version start rows steps)) x
+    → 20 * rows ≤ length x
+read-within {out = out} p =
+    let r = read-done p in
+    let rs = r .records in
+    omega (arith, r .counted, packed-length rs, ap length (r .filled), length-append (packed rs) (drop (20 * length rs) out))
 
 -- Any trace that was read can be written, given room: only the room can stop it.
 pub read-writes : {version start rows steps : ℕ} {text out x page c y : List ℕ}

@@ -45,7 +45,7 @@ unfit-stopped w v l (Passes.malformed f) = malformed w v l f
 unfit-stopped w v l (Passes.misfit h f) = misfit w v l h f
 
 -- What was put at the start stands before what was behind it.
-at-start : {old new t : List ℕ} {e : ℕ} → Wrote old new 0 e t → length t ≤ length old → new ≡ t ++ drop (length t) old
+pub at-start : {old new t : List ℕ} {e : ℕ} → Wrote old new 0 e t → length t ≤ length old → new ≡ t ++ drop (length t) old
 at-start {old} {t = t} w h = w .stored ∙ sets-eq t old 0 (omega arith) ∙ rw zero-add
 
 -- Line 1, line 2 and the rows are the house spelling.

@@ -82,7 +82,7 @@ fn head_length(version: u64, start: u64) -> usize
 }
 
 // The record at a place.
-fn record_at(records: &[u8], at: usize) -> Entry
+pub fn record_at(records: &[u8], at: usize) -> Entry
     requires { ⌜ at + 20 ≤ length (now records) ⌝ }
     ensures { λ e. ⌜ EntryOf (take 20 (drop at (now (records .entry)))) e ⌝ }
 {

@@ -2,7 +2,8 @@
 use native.Mathlib.Nat.{sub-zero}
 use native.Mathlib.Omega.{arith}
 use borrow.Author.Needs.{needs}
-use Rattle.there_and_back.proofs.Ways.{unread-way, read-within, written-within, done-way, no-page-way}
+use Rattle.trace_writer.proofs.Again.{read-within}
+use Rattle.there_and_back.proofs.Ways.{unread-way, written-within, done-way, no-page-way}
 use Rattle.there_and_back.proofs.again.Statement.{statement}
 use Rattle.there_and_back.proofs.again.Tie as tie
 

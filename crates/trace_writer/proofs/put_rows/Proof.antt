@@ -3,7 +3,8 @@ use Prim.Native.Nat.{_-_}
 use native.Mathlib.Omega.{arith}
 use borrow.Author.Needs.{needs}
 use lib.ListN.{length}
-use Rattle.trace_writer.proofs.Putting.{Putting, putting, next-row, next-room, put-more, never-not, next-whole, rows-put}
+use Rattle.trace_writer.proofs.Ahead.{never-not, next-whole}
+use Rattle.trace_writer.proofs.Putting.{Putting, putting, next-row, next-room, put-more, rows-put}
 use Rattle.trace_writer.proofs.put_rows.Statement.{statement}
 use Rattle.trace_writer.proofs.put_rows.Tie as tie
 
@@ -19,13 +20,13 @@ put-rows-spec =
     (tie.spec Inv-loop μ-loop
     (λ c. putting (c .before .before .pre))
     (λ c. let n = c .before .loop .inv .few in omega arith)
-    (λ c κs. let h = next-whole (c .before .loop .inv) (c .loop-test .taken) in omega arith)
+    (λ c κs. let h = next-whole (c .before .loop .inv .records) (c .loop-test .taken) in omega arith)
     (λ c. search needs)
     (λ c. search needs)
     (λ c. c .before .before .before .before .loop .inv .same)
     (λ c.
     let l = c .before .before .before .before .loop .inv in
-    absurd (never-not l (next-whole l (c .before .before .before .loop-test .taken)) (rw (c .enum-told .given .1) at (c .before .before .record-at .ensures))))
+    absurd (never-not (l .records) (next-whole (l .records) (c .before .before .before .loop-test .taken)) (rw (c .enum-told .given .1) at (c .before .before .record-at .ensures))))
     (λ c κs.
     let l = c .before .before .before .before .before .before .loop .inv in
     let t = c .before .before .before .before .before .loop-test .taken in
@@ -35,8 +36,8 @@ put-rows-spec =
     (λ c κs.
     let r = rw (c .before .before .before .before .before .before .next .given .1) at (c .before .before .before .before .before .before .before .before .record-at .ensures) in
     omega (arith, next-room (c .before .before .before .before .before .before .before .before .before .before .loop .inv) (c .before .before .before .before .before .before .before .before .before .loop-test .taken) r, c .before .before .before .put-row .ensures .next))
-    (λ c. let h = next-whole (c .before .before .before .before .before .before .before .before .before .before .before .before .before .loop .inv) (c .before .before .before .before .before .before .before .before .before .before .before .before .loop-test .taken) in omega arith)
-    (λ c. let h = next-whole (c .before .before .before .before .before .before .before .before .before .before .before .before .before .loop .inv) (c .before .before .before .before .before .before .before .before .before .before .before .before .loop-test .taken) in omega arith)
+    (λ c. let h = next-whole (c .before .before .before .before .before .before .before .before .before .before .before .before .before .loop .inv .records) (c .before .before .before .before .before .before .before .before .before .before .before .before .loop-test .taken) in omega arith)
+    (λ c. let h = next-whole (c .before .before .before .before .before .before .before .before .before .before .before .before .before .loop .inv .records) (c .before .before .before .before .before .before .before .before .before .before .before .before .loop-test .taken) in omega arith)
     (λ c.
     let l = c .before .before .before .before .before .before .before .before .before .before .before .before .before .loop .inv in
     let r = rw (c .before .before .before .before .before .before .before .before .before .next .given .1) at (c .before .before .before .before .before .before .before .before .before .before .before .record-at .ensures) in

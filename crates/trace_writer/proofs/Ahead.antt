@@ -1,0 +1,81 @@
+-- What a pass that writes keeps: the records that the bytes are, those up to `at` and those ahead.
+use Prim.Native.Nat.{ℕ, _+_, _≤_, _<_}
+use mathlib.Core.Path.{_≡_, refl, ap, sym, _∙_}
+use mathlib.Core.List.{List, [], _∷_, _++_, append-assoc, append-nil}
+use native.Mathlib.Omega.{arith}
+use lib.ListN.{length, take, drop, length-drop}
+use lib.Seq.{drop-drop}
+use Rattle.record.specs.declared.Record.{Record}
+use Rattle.record.specs.Record.{WellFormed, Packs}
+use Rattle.record.proofs.OneRecord.{packs, one-record}
+use Rattle.trace.specs.Promise.{packed}
+use Rattle.trace.specs.House.{Each, more}
+use Rattle.trace.proofs.Packing.{packed-length}
+use Rattle.trace_writer.specs.Promise.{Holds}
+use Rattle.trace_writer.proofs.Lists.{each-tail, first-packed, rest-packed}
+use Rattle.trace_writer.proofs.Records.{holds-one}
+
+pub record Ahead (s : List ℕ) (at : ℕ) : Type 0 where
+  pub before : List Record
+  pub after : List Record
+  pub whole : Holds (before ++ after) s
+  pub formed : Each WellFormed after
+  pub rest : drop at s ≡ packed after
+
+abbrev pub ahead : {rs : List Record} {s : List ℕ} → Holds rs s → Ahead s 0
+ahead {rs} h = record { before = []; after = rs; whole = h; formed = h .formed; rest = h .bytes }
+
+-- The record at the place is the first of those ahead.
+pub next-of : {r : Record} (at : ℕ) (s : List ℕ) (rs : List Record) → at < length s → drop at s ≡ packed rs → Each WellFormed rs
+    → Packs r (take 20 (drop at s)) → (qs : List Record) × (rs ≡ r ∷ qs) × (drop (at + 20) s ≡ packed qs)
+next-of at s [] h e w p = absurd (omega (arith, length-drop at s, ap length e, packed-length []))
+next-of {r} at s (q ∷ qs) h e (more x w) p =
+    let d : r ≡ q = one-record (rw (e, first-packed q qs) at p) (packs x) in
+    (qs, ap (λ (y : Record). y ∷ qs) (sym d), sym (drop-drop 20 at s) ∙ ap (drop 20) e ∙ rest-packed q qs)
+
+module _ {s : List ℕ} {at : ℕ} (f : Ahead s at) where
+  module _ {r : Record} (h : at < length s) (b : Packs r (take 20 (drop at s))) where
+    abbrev next : (qs : List Record) × (f .after ≡ r ∷ qs) × (drop (at + 20) s ≡ packed qs)
+    next = next-of at s (f .after) h (f .rest) (f .formed) b
+
+    abbrev pub later : List Record
+    later = next .0
+
+    pub after-next : f .after ≡ r ∷ later
+    after-next = next .1
+
+    abbrev pub ahead-more : Ahead s (at + 20)
+    ahead-more = record {
+      before = f .before ++ (r ∷ []);
+      after = later;
+      whole = rw append-assoc (rw after-next at (f .whole));
+      formed = each-tail (rw after-next at (f .formed));
+      rest = next .2;
+    }
+
+  -- None of them is malformed.
+  pub never-not : at + 20 ≤ length s → ((r : Record) → Packs r (take 20 (drop at s)) → ⊥) → ⊥
+  never-not h n = go (f .after) (f .rest) (f .formed)
+    where
+      go : (rs : List Record) → drop at s ≡ packed rs → Each WellFormed rs → ⊥
+      go [] e w = omega (arith, length-drop at s, ap length e, packed-length [])
+      go (q ∷ qs) e (more x w) = n q (rw (e, first-packed q qs) (packs x))
+
+  -- The record at the place is whole.
+  pub next-whole : at < length s → at + 20 ≤ length s
+  next-whole h = go (f .after) (f .rest)
+    where
+      go : (rs : List Record) → drop at s ≡ packed rs → at + 20 ≤ length s
+      go [] e = absurd (omega (arith, length-drop at s, ap length e, packed-length []))
+      go (q ∷ qs) e = omega (arith, length-drop at s, ap length e, packed-length (q ∷ qs))
+
+  -- At the end none is ahead.
+  pub none-ahead : length s ≤ at → f .after ≡ []
+  none-ahead h = go (f .after) (f .rest)
+    where
+      go : (rs : List Record) → drop at s ≡ packed rs → rs ≡ []
+      go [] e = refl
+      go (q ∷ qs) e = absurd (omega (arith, length-drop at s, ap length e, packed-length (q ∷ qs)))
+
+  pub all-behind : {rs : List Record} → length s ≤ at → Holds rs s → rs ≡ f .before
+  all-behind h g = holds-one g (f .whole) ∙ ap (λ (x : List Record). f .before ++ x) (none-ahead h) ∙ append-nil (f .before)

@@ -1,0 +1,70 @@
+-- What a pass that judges keeps: the records up to `at` are well formed.
+use Prim.Native.Nat.{ℕ, _+_, _*_, _≤_, _<_}
+use mathlib.Core.Path.{_≡_, refl, ap, sym, _∙_}
+use mathlib.Core.List.{List, [], _∷_, _++_, append-assoc, append-nil}
+use native.Mathlib.Omega.{arith}
+use lib.ListN.{length, take, drop, length-append, drop-of-length-le}
+use Rattle.fields.specs.Columns.{lastNumber}
+use Rattle.record.specs.declared.Record.{Record}
+use Rattle.record.specs.Record.{WellFormed, Packs}
+use Rattle.trace.specs.Promise.{packed}
+use Rattle.trace.specs.House.{Each, none}
+use Rattle.trace.proofs.Packing.{packed-more}
+use Rattle.trace_writer.specs.Promise.{Whole, Holds, FirstMalformed}
+use Rattle.trace_writer.proofs.Lists.{each-snoc, packed-none, twenty, next-record}
+
+pub record Through (s : List ℕ) (at k : ℕ) : Type 0 where
+  pub records : List Record
+  pub front : s ≡ packed records ++ drop at s
+  pub formed : Each WellFormed records
+  pub counted : k ≡ length records
+  pub place : at ≡ 20 * k
+  pub within : at ≤ length s
+
+abbrev pub through : (s : List ℕ) → Through s 0 0
+through s = record { records = []; front = rw packed-none; formed = none; counted = refl; place = refl; within = omega arith }
+
+module _ {s : List ℕ} {at k : ℕ} (m : Through s at k) where
+  -- Another record is there, and has a row number.
+  pub one-more : Whole s → at < length s → (at + 20 ≤ length s) × (k + 1 ≤ lastNumber)
+  one-more w h =
+      let p = m .place in
+      let a = w .twenties in
+      let b = w .few in
+      (omega arith, omega arith)
+
+  pub behind : s ≡ packed (m .records) ++ (take 20 (drop at s) ++ drop (at + 20) s)
+  behind = m .front ∙ ap (λ (x : List ℕ). packed (m .records) ++ x) (next-record at s)
+
+  -- It is malformed, and the first such,
+  pub malformed-next : at + 20 ≤ length s → ((r : Record) → Packs r (take 20 (drop at s)) → ⊥) → FirstMalformed s (k + 1)
+  malformed-next h f = record {
+    before = m .records;
+    these = take 20 (drop at s);
+    after = drop (at + 20) s;
+    bytes = behind;
+    formed = m .formed;
+    twenty = twenty at s h;
+    malformed = f;
+    at = ap (λ (n : ℕ). n + 1) (m .counted);
+  }
+
+  -- or it is one record more.
+  abbrev pub through-more : {r : Record} → at + 20 ≤ length s → Packs r (take 20 (drop at s)) → Through s (at + 20) (k + 1)
+  through-more {r} h p = record {
+    records = m .records ++ (r ∷ []);
+    front =
+        behind
+        ∙ sym (append-assoc (packed (m .records)) (take 20 (drop at s)) (drop (at + 20) s))
+        ∙ ap (λ (x : List ℕ). x ++ drop (at + 20) s) (ap (λ (x : List ℕ). packed (m .records) ++ x) (p .packed) ∙ sym (packed-more (m .records) r));
+    formed = each-snoc (m .formed) (p .formed);
+    counted = omega (arith, m .counted, length-append (m .records) (r ∷ []));
+    place = omega (arith, m .place);
+    within = h;
+  }
+
+  pub all-through : length s ≤ at → Holds (m .records) s
+  all-through h = record {
+    formed = m .formed;
+    bytes = m .front ∙ ap (λ (x : List ℕ). packed (m .records) ++ x) (drop-of-length-le s h) ∙ append-nil (packed (m .records));
+  }
