@@ -4,6 +4,7 @@ pub mod Data
 pub mod Ending
 pub mod Fields
 pub mod Formed
+pub mod Least
 pub mod Moves
 pub mod One
 pub mod Plain

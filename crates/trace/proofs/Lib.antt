@@ -3,6 +3,7 @@ pub mod Apart
 pub mod Beginnings
 pub mod Cuts
 pub mod Fails
+pub mod Few
 pub mod Filling
 pub mod HouseTexts
 pub mod Judging
