@@ -1,0 +1,143 @@
+-- The line by the pieces that its writer puts, and how long each is.
+use Prim.Native.Nat.{ℕ, _+_, _*_, _^_, _≤_}
+use mathlib.Core.Path.{_≡_, refl, ap, _∙_}
+use mathlib.Core.List.{List, [], _∷_, _++_, append-assoc, append-nil}
+use native.Mathlib.Decide.{ℕ-discrete}
+use native.Mathlib.Omega.{arith}
+use borrow.Author.Tests.{eq-eqb, ne-eqb}
+use lib.ListN.{length, length-append}
+use Rattle.digits.specs.declared.Letters.the-variants.{Small}
+use Rattle.digits.specs.House.{decimalText, paddedText, hexText}
+use Rattle.digits.proofs.House.{length-fixed, few}
+use Rattle.clock.specs.declared.CalendarDay.{CalendarDay}
+use Rattle.clock.specs.declared.DayTime.{DayTime}
+use Rattle.clock.specs.declared.DateTime.{DateTime}
+use Rattle.record.specs.declared.Record.{Record}
+use Rattle.fields.specs.Columns.{markRx, markTx}
+use Rattle.row.specs.House.{byteTexts}
+use Rattle.row_writer.specs.Parts.{spaced}
+use Rattle.row_writer.proofs.Rows.{spaced-none, spaced-more, spaced-append}
+use Rattle.row_writer.proofs.Bytes.{length-bytes}
+use Rattle.ascii_line.specs.Line.{dateText, timeText, typeText, channelOf, extendedTexts, directionText, idText, partTexts, lineText}
+use Rattle.ascii_line.specs.Parts.{sourceText, wayText, dataText, frameText}
+
+pub date : (d : CalendarDay) → dateText d ≡ paddedText 2 (d .day) ++ (46 ∷ (paddedText 2 (d .month) ++ (46 ∷ paddedText 4 (d .year))))
+unfolding dateText
+date d = refl
+
+pub time : (t : DayTime)
+    → timeText t ≡ paddedText 2 (t .hour) ++ (58 ∷ (paddedText 2 (t .minute) ++ (58 ∷ (paddedText 2 (t .second) ++ (46 ∷ paddedText 4 (t .part))))))
+unfolding timeText
+time t = refl
+
+pub first-channel : (bus : ℕ) → bus ≡ 0 → channelOf bus ≡ 1
+unfolding channelOf
+first-channel bus e = rw (eq-eqb bus 0 e)
+
+pub own-channel : (bus : ℕ) → (bus ≡ 0 → ⊥) → channelOf bus ≡ bus
+unfolding channelOf
+own-channel bus f = rw (ne-eqb bus 0 f)
+
+pub extended-source : (x : ℕ) → x ≡ 1 → sourceText x ≡ 32 ∷ 67 ∷ 65 ∷ 78 ∷ 69 ∷ 120 ∷ 116 ∷ 32 ∷ 35 ∷ []
+unfolding typeText
+extended-source x e = rw (eq-eqb x 1 e)
+
+pub standard-source : (x : ℕ) → (x ≡ 1 → ⊥) → sourceText x ≡ 32 ∷ 67 ∷ 65 ∷ 78 ∷ 32 ∷ 35 ∷ []
+unfolding typeText
+standard-source x f = rw (ne-eqb x 1 f)
+
+pub received : (kind : ℕ) → kind ≡ 0 → directionText kind ≡ markRx
+unfolding directionText
+received kind e = rw (eq-eqb kind 0 e)
+
+pub sent : (kind : ℕ) → (kind ≡ 0 → ⊥) → directionText kind ≡ markTx
+unfolding directionText
+sent kind f = rw (ne-eqb kind 0 f)
+
+pub extended-way : (x kind : ℕ) → x ≡ 1 → wayText x kind ≡ 32 ∷ 124 ∷ 32 ∷ 69 ∷ 88 ∷ 84 ∷ 69 ∷ 78 ∷ 68 ∷ 69 ∷ 68 ∷ 32 ∷ directionText kind
+unfolding extendedTexts
+extended-way x kind e = rw (eq-eqb x 1 e, spaced-more, spaced-more, spaced-more, spaced-none, append-nil (directionText kind))
+
+pub standard-way : (x kind : ℕ) → (x ≡ 1 → ⊥) → wayText x kind ≡ 32 ∷ 124 ∷ 32 ∷ directionText kind
+unfolding extendedTexts
+standard-way x kind f = rw (ne-eqb x 1 f, spaced-more, spaced-more, spaced-none, append-nil (directionText kind))
+
+pub extended-id : (r : Record) → r .extended ≡ 1 → idText r ≡ hexText Small 8 (r .id)
+unfolding idText
+extended-id r e = rw e
+
+pub standard-id : (r : Record) → r .extended ≡ 0 → idText r ≡ hexText Small 3 (r .id)
+unfolding idText
+standard-id r e = rw e
+
+-- The line is what is written.
+
+way-more : (x kind : ℕ) (fs : List (List ℕ)) → spaced ((124 ∷ []) ∷ (extendedTexts x ++ (directionText kind ∷ fs))) ≡ wayText x kind ++ spaced fs
+way-more x kind fs =
+    let e : extendedTexts x ++ (directionText kind ∷ fs) ≡ (extendedTexts x ++ (directionText kind ∷ [])) ++ fs = rw append-assoc in
+    ap (λ (gs : List (List ℕ)). spaced ((124 ∷ []) ∷ gs)) e ∙ spaced-append ((124 ∷ []) ∷ (extendedTexts x ++ (directionText kind ∷ []))) fs
+
+data-more : (r : Record) → spaced (idText r ∷ ((48 + r .len) ∷ []) ∷ byteTexts Small (256 ^ 7) (r .len) (r .«data»)) ≡ (32 ∷ idText r) ++ dataText r
+data-more r = rw (spaced-more, spaced-more)
+
+regroup : (t h n w i d e : List ℕ) → (t ++ ((h ++ n) ++ (w ++ (i ++ d)))) ++ e ≡ (t ++ h) ++ (n ++ (w ++ (i ++ (d ++ e))))
+regroup t h n w i d e = simp append-assoc
+
+frame-cut : (r : Record) → spaced (partTexts r) ++ (13 ∷ 10 ∷ []) ≡ frameText r
+frame-cut r =
+    rw (spaced-more, spaced-more, way-more, data-more)
+    (regroup (32 ∷ typeText (r .extended)) (32 ∷ 35 ∷ []) (decimalText (channelOf (r .bus))) (wayText (r .extended) (r .kind)) (32 ∷ idText r) (dataText r) (13 ∷ 10 ∷ []))
+
+pub line-cut : (s : DateTime) (r : Record) → lineText s r ≡ dateText (s .date) ++ (32 ∷ (timeText (s .time) ++ frameText r))
+unfolding lineText
+line-cut s r =
+    append-assoc (dateText (s .date)) _ _ ∙ ap (λ (t : List ℕ). dateText (s .date) ++ (32 ∷ (timeText (s .time) ++ t))) (frame-cut r)
+
+-- How long the pieces are.
+
+length-date : (d : CalendarDay) → length (dateText d) ≡ 10
+length-date d = rw date (simp (length-append, length-fixed))
+
+length-time : (t : DayTime) → length (timeText t) ≡ 13
+length-time t = rw time (simp (length-append, length-fixed))
+
+length-direction : (kind : ℕ) → length (directionText kind) ≡ 2
+length-direction kind = elim (ℕ-discrete kind 0) [ yes e ↦ ap length (received kind e) | no f ↦ ap length (sent kind f) ]
+
+pub length-extended-way : (x kind : ℕ) → x ≡ 1 → length (wayText x kind) ≡ 14
+length-extended-way x kind e = omega (arith, ap length (extended-way x kind e), length-direction kind)
+
+pub length-standard-way : (x kind : ℕ) → (x ≡ 1 → ⊥) → length (wayText x kind) ≡ 5
+length-standard-way x kind f = omega (arith, ap length (standard-way x kind f), length-direction kind)
+
+pub length-extended-id : (r : Record) → r .extended ≡ 1 → length (idText r) ≡ 8
+length-extended-id r e = rw (extended-id r e, length-fixed)
+
+pub length-standard-id : (r : Record) → r .extended ≡ 0 → length (idText r) ≡ 3
+length-standard-id r e = rw (standard-id r e, length-fixed)
+
+pub length-data : (r : Record) → length (dataText r) ≡ 2 + 3 * r .len
+length-data r = omega (arith, length-bytes Small (256 ^ 7) (r .len) (r .«data»))
+
+pub line-length : (s : DateTime) (r : Record) → length (lineText s r) ≡ length (frameText r) + 24
+line-length s r = rw (line-cut, length-append) (omega (arith, length-append (timeText (s .time)) (frameText r), length-date (s .date), length-time (s .time)))
+
+-- In these n is the channel, as the writer has computed it.
+
+pub frame-length : {n : ℕ} (r : Record) → n ≡ channelOf (r .bus)
+    → length (frameText r) ≡ length (sourceText (r .extended)) + length (decimalText n) + length (wayText (r .extended) (r .kind)) + length (32 ∷ idText r) + length (dataText r) + 2
+frame-length r e = rw e (simp length-append (omega arith))
+
+pub extended-length : {n : ℕ} (r : Record) → n ≡ channelOf (r .bus) → r .extended ≡ 1 → length (frameText r) ≡ length (decimalText n) + 3 * r .len + 36
+extended-length r e h =
+    omega (arith, frame-length r e, ap length (extended-source (r .extended) h), length-extended-way (r .extended) (r .kind) h, length-extended-id r h, length-data r)
+
+pub standard-length : {n : ℕ} (r : Record) → n ≡ channelOf (r .bus) → r .extended ≡ 0 → length (frameText r) ≡ length (decimalText n) + 3 * r .len + 19
+standard-length r e h =
+    let f : r .extended ≡ 1 → ⊥ = λ k. omega arith in
+    omega (arith, frame-length r e, ap length (standard-source (r .extended) f), length-standard-way (r .extended) (r .kind) f, length-standard-id r h, length-data r)
+
+pub short-channel : {n bus : ℕ} → n ≡ channelOf bus → bus ≤ 16 → length (decimalText n) ≤ 2
+short-channel {n} {bus} e h =
+    let k : channelOf bus ≤ 16 = elim (ℕ-discrete bus 0) [ yes z ↦ omega (arith, first-channel bus z) | no f ↦ omega (arith, own-channel bus f) ] in
+    few 1 n (omega arith)

@@ -1,0 +1,11 @@
+-- `ascii_line::channel` meets its contract.
+use mathlib.Core.Path.{sym}
+use Rattle.ascii_line.proofs.Texts.{first-channel, own-channel}
+use Rattle.ascii_line.proofs.channel.Statement.{statement}
+use Rattle.ascii_line.proofs.channel.Tie as tie
+
+pub channel-spec : {M : Type 1} → statement M
+channel-spec =
+    tie.close (tie.spec
+    (λ c. sym (first-channel (c .before .args .bus) (c .if1 .taken)))
+    (λ c. sym (own-channel (c .before .args .bus) (c .if1 .left))))

@@ -1,0 +1,26 @@
+-- `ascii_line::put_date` meets its contract.
+use borrow.Author.Needs.{needs}
+use Rattle.base.proofs.Lists.{then}
+use Rattle.ascii_line.proofs.Texts.{date}
+use Rattle.ascii_line.proofs.put_date.Statement.{statement}
+use Rattle.ascii_line.proofs.put_date.Tie as tie
+
+pub put-date-spec : {M : Type 1} → statement M
+put-date-spec =
+    tie.close (tie.spec
+    (λ c κs. search needs)
+    (λ c κs. search needs)
+    (λ c κs. search needs)
+    (λ c κs. search needs)
+    (λ c κs. search needs)
+    (λ c. search needs)
+    (λ c.
+    let e = c .before .before .before .before .before .before in
+    let d = e .before .before .before .before in
+    let b = d .before .before .before .before in
+    let a = b .before .before .before .before in (
+      rw date
+          (then (a .put-padded .ensures .0)
+          (then (b .put-byte .ensures) (then (d .put-padded2 .ensures .0) (then (e .put-byte2 .ensures) (c .before .before .put-padded3 .ensures .0))))),
+      search needs,
+    )))

@@ -1,0 +1,58 @@
+-- The line of one record in Telemotive ASCII: the stamp, then each part behind one blank, then CR LF.
+use Prim.Native.Nat.{ℕ, _+_, _*_, _^_}
+use mathlib.Core.Bool.{cond}
+use mathlib.Core.List.{List, [], _∷_, _++_}
+use lib.Dec.{eqb}
+use Rattle.digits.specs.declared.Letters.the-variants.{Small}
+use Rattle.digits.specs.House.{decimalText, paddedText, hexText}
+use Rattle.clock.specs.declared.CalendarDay.{CalendarDay}
+use Rattle.clock.specs.declared.DayTime.{DayTime}
+use Rattle.clock.specs.declared.DateTime.{DateTime}
+use Rattle.record.specs.declared.Record.{Record}
+use Rattle.fields.specs.Columns.{markRx, markTx}
+use Rattle.row.specs.House.{byteTexts}
+use Rattle.row_writer.specs.Parts.{spaced}
+
+-- `dd.mm.yyyy`
+unfoldable pub dateText : CalendarDay → List ℕ
+dateText d = paddedText 2 (d .day) ++ (46 ∷ (paddedText 2 (d .month) ++ (46 ∷ paddedText 4 (d .year))))
+
+-- `hh:mm:ss.xxxx`
+unfoldable pub timeText : DayTime → List ℕ
+timeText t = paddedText 2 (t .hour) ++ (58 ∷ (paddedText 2 (t .minute) ++ (58 ∷ (paddedText 2 (t .second) ++ (46 ∷ paddedText 4 (t .part))))))
+
+abbrev pub stampText : DateTime → List ℕ
+stampText s = dateText (s .date) ++ (32 ∷ timeText (s .time))
+
+-- `CAN`, and `CANExt` for an extended ID.
+unfoldable pub typeText : ℕ → List ℕ
+typeText extended = cond (eqb extended 1) (67 ∷ 65 ∷ 78 ∷ 69 ∷ 120 ∷ 116 ∷ []) (67 ∷ 65 ∷ 78 ∷ [])
+
+-- Bus 0 is written as channel 1.
+unfoldable pub channelOf : ℕ → ℕ
+channelOf bus = cond (eqb bus 0) 1 bus
+
+-- `#` and the channel.
+abbrev pub channelText : ℕ → List ℕ
+channelText bus = 35 ∷ decimalText (channelOf bus)
+
+-- `EXTENDED` before the direction, for an extended ID.
+unfoldable pub extendedTexts : ℕ → List (List ℕ)
+extendedTexts extended = cond (eqb extended 1) ((69 ∷ 88 ∷ 84 ∷ 69 ∷ 78 ∷ 68 ∷ 69 ∷ 68 ∷ []) ∷ []) []
+
+-- `Rx` for received, `Tx` for sent.
+unfoldable pub directionText : ℕ → List ℕ
+directionText kind = cond (eqb kind 0) markRx markTx
+
+-- Eight digits of an extended ID, three of a standard one.
+unfoldable pub idText : Record → List ℕ
+idText r = hexText Small (3 + 5 * r .extended) (r .id)
+
+-- What stands behind the stamp.
+abbrev pub partTexts : Record → List (List ℕ)
+partTexts r =
+    typeText (r .extended) ∷ channelText (r .bus) ∷ (124 ∷ [])
+    ∷ (extendedTexts (r .extended) ++ (directionText (r .kind) ∷ idText r ∷ ((48 + r .len) ∷ []) ∷ byteTexts Small (256 ^ 7) (r .len) (r .«data»)))
+
+unfoldable pub lineText : DateTime → Record → List ℕ
+lineText s r = stampText s ++ (spaced (partTexts r) ++ (13 ∷ 10 ∷ []))

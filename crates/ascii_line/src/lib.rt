@@ -1,0 +1,148 @@
+// One line of Telemotive ASCII: the line of one record, and how many bytes that is.
+use base::put_byte;
+use base::put_text;
+use clock::CalendarDay;
+use clock::DateTime;
+use clock::DayTime;
+use digits::Letters;
+use digits::decimal_length;
+use digits::put_decimal;
+use digits::put_hex;
+use digits::put_padded;
+use record::Record;
+use row_writer::put_bytes;
+ghost use mathlib.Core.Path.{_≡_};
+ghost use mathlib.Core.List.{_∷_};
+ghost use Prim.Native.Nat.{_+_, _≤_};
+ghost use lib.ListN.{length};
+ghost use Rattle.base.specs.Wrote.{Wrote};
+ghost use Rattle.clock.specs.declared.DateTime.{DateTime as AnyStamp};
+ghost use Rattle.ascii_line.specs.Line.{dateText, timeText, channelOf, idText, lineText};
+ghost use Rattle.ascii_line.specs.Parts.{sourceText, wayText, dataText, frameText};
+
+// `dd.mm.yyyy`
+fn put_date(out: &mut [u8], at: usize, d: CalendarDay) -> usize
+    requires { ⌜ at + 10 ≤ length (now out) ⌝ }
+    ensures { λ r. ⌜ Wrote (now (out .entry)) (now (out .exit)) at r (dateText d) ⌝ }
+    ensures { λ r. ⌜ r ≡ at + 10 ⌝ }
+{
+    let a = put_padded(out, at, 2, d.day);
+    let b = put_byte(out, a, 46);
+    let c = put_padded(out, b, 2, d.month);
+    let e = put_byte(out, c, 46);
+    put_padded(out, e, 4, d.year)
+}
+
+// `hh:mm:ss.xxxx`
+fn put_time(out: &mut [u8], at: usize, t: DayTime) -> usize
+    requires { ⌜ at + 13 ≤ length (now out) ⌝ }
+    ensures { λ r. ⌜ Wrote (now (out .entry)) (now (out .exit)) at r (timeText t) ⌝ }
+    ensures { λ r. ⌜ r ≡ at + 13 ⌝ }
+{
+    let a = put_padded(out, at, 2, t.hour);
+    let b = put_byte(out, a, 58);
+    let c = put_padded(out, b, 2, t.minute);
+    let d = put_byte(out, c, 58);
+    let e = put_padded(out, d, 2, t.second);
+    let f = put_byte(out, e, 46);
+    put_padded(out, f, 4, t.part)
+}
+
+// Bus 0 is written as channel 1.
+fn channel(bus: u64) -> u64
+    ensures { λ r. ⌜ r ≡ channelOf bus ⌝ }
+{
+    if bus == 0 {
+        return 1;
+    }
+    bus
+}
+
+// `CAN` or `CANExt`, and the `#` of the channel.
+fn put_source(out: &mut [u8], at: usize, extended: u64) -> usize
+    requires { ⌜ at + length (sourceText extended) ≤ length (now out) ⌝ }
+    ensures { λ r. ⌜ Wrote (now (out .entry)) (now (out .exit)) at r (sourceText extended) ⌝ }
+{
+    if extended == 1 {
+        return put_text(out, at, b" CANExt #");
+    }
+    put_text(out, at, b" CAN #")
+}
+
+// The bar, `EXTENDED` for an extended ID, and `Rx` or `Tx`.
+fn put_way(out: &mut [u8], at: usize, extended: u64, kind: u64) -> usize
+    requires { ⌜ at + length (wayText extended kind) ≤ length (now out) ⌝ }
+    ensures { λ r. ⌜ Wrote (now (out .entry)) (now (out .exit)) at r (wayText extended kind) ⌝ }
+{
+    if extended == 1 {
+        if kind == 0 {
+            return put_text(out, at, b" | EXTENDED Rx");
+        }
+        return put_text(out, at, b" | EXTENDED Tx");
+    }
+    if kind == 0 {
+        return put_text(out, at, b" | Rx");
+    }
+    put_text(out, at, b" | Tx")
+}
+
+// Eight digits of an extended ID, three of a standard one.
+fn put_id(out: &mut [u8], at: usize, r: Record) -> usize
+    requires { ⌜ (r .extended ≤ 1) × (at + length (32 ∷ idText r) ≤ length (now out)) ⌝ }
+    ensures { λ e. ⌜ Wrote (now (out .entry)) (now (out .exit)) at e (32 ∷ idText r) ⌝ }
+{
+    let p = put_byte(out, at, 32);
+    if r.extended == 1 {
+        return put_hex(out, p, 8, r.id, Letters::Small);
+    }
+    put_hex(out, p, 3, r.id, Letters::Small)
+}
+
+// Length and bytes.
+fn put_data(out: &mut [u8], at: usize, r: Record) -> usize
+    requires { ⌜ (r .len ≤ 8) × (at + length (dataText r) ≤ length (now out)) ⌝ }
+    ensures { λ e. ⌜ Wrote (now (out .entry)) (now (out .exit)) at e (dataText r) ⌝ }
+{
+    let p = put_byte(out, at, 32);
+    let q = put_byte(out, p, 48 + r.len as u8);
+    put_bytes(out, q, r.len, r.data, Letters::Small)
+}
+
+// What stands behind the stamp, and CR LF.
+fn put_frame(out: &mut [u8], at: usize, r: Record) -> usize
+    requires { ⌜ (r .extended ≤ 1) × (r .len ≤ 8) × (at + length (frameText r) ≤ length (now out)) ⌝ }
+    ensures { λ e. ⌜ Wrote (now (out .entry)) (now (out .exit)) at e (frameText r) ⌝ }
+{
+    let p = put_source(out, at, r.extended);
+    let q = put_decimal(out, p, channel(r.bus));
+    let s = put_way(out, q, r.extended, r.kind);
+    let t = put_id(out, s, r);
+    let u = put_data(out, t, r);
+    put_text(out, u, b"\r\n")
+}
+
+// How many bytes the line of a record is, whatever its stamp.
+pub fn line_length(r: Record) -> usize
+    requires { ⌜ (r .extended ≤ 1) × (r .bus ≤ 16) × (r .len ≤ 8) ⌝ }
+    ensures { λ n. ⌜ ((s : AnyStamp) → n ≡ length (lineText s r)) × (n ≤ 86) ⌝ }
+{
+    let number = decimal_length(channel(r.bus));
+    let bytes = 3 * r.len as usize;
+    if r.extended == 1 {
+        return number + bytes + 60;
+    }
+    number + bytes + 43
+}
+
+// Puts the line of a record with a stamp at a position, and gives the position after it.
+pub fn put_line(out: &mut [u8], at: usize, s: DateTime, r: Record) -> usize
+    requires { ⌜ (r .extended ≤ 1) × (r .len ≤ 8) × (at + length (lineText s r) ≤ length (now out)) ⌝ }
+    ensures { λ e. ⌜ Wrote (now (out .entry)) (now (out .exit)) at e (lineText s r) ⌝ }
+{
+    let date = s.date;
+    let time = s.time;
+    let p = put_date(out, at, date);
+    let q = put_byte(out, p, 32);
+    let t = put_time(out, q, time);
+    put_frame(out, t, r)
+}
