@@ -1,0 +1,79 @@
+-- One answer: the promise of `export` leaves one answer and one output only.
+use Prim.Native.Nat.{ℕ, _≤_}
+use mathlib.Core.Path.{_≡_, refl, ap, sym, _∙_}
+use mathlib.Core.Logic.{_≢_}
+use mathlib.Core.List.{List, _++_}
+use native.Mathlib.Omega.{arith}
+use lib.ListN.{length, drop}
+use Rattle.record.specs.declared.Record.{Record}
+use Rattle.trace_writer.specs.Promise.{Holds}
+use Rattle.trace_writer.proofs.Records.{holds-one, malformed-one, none-malformed}
+use Rattle.ascii.specs.declared.Exported.the-variants as exported
+use Rattle.ascii.specs.Promise.{exportNumbers, lineCount, leftCount, Stopped, no-records, late, malformed, Given, ExportPromise, refused, no-room, done}
+use Rattle.ascii.proofs.Exporting.{exports-one}
+
+-- Refusals 20, 22 and 23 have one number at one place.
+pub stopped-one : {start a b p q : ℕ} {s : List ℕ} → Stopped start s a p → Stopped start s b q → (a ≡ b) × (p ≡ q)
+stopped-one (no-records f) (no-records g) = (refl, refl)
+stopped-one (no-records f) (late w l) = absurd (f w)
+stopped-one (no-records f) (malformed w l g) = absurd (f w)
+stopped-one (late v k) (no-records g) = absurd (g v)
+stopped-one (late v k) (late w l) = (refl, refl)
+stopped-one (late v k) (malformed w l g) = absurd (omega arith)
+stopped-one (malformed v k f) (no-records g) = absurd (g v)
+stopped-one (malformed v k f) (late w l) = absurd (omega arith)
+stopped-one (malformed v k f) (malformed w l g) = (refl, malformed-one f g)
+
+stopped-number : {start n p : ℕ} {s : List ℕ} → Stopped start s n p → 20 ≤ n
+stopped-number (no-records f) = omega arith
+stopped-number (late w l) = omega arith
+stopped-number (malformed w l f) = omega arith
+
+-- What is given is none of them,
+not-stopped : {start n p : ℕ} {s text : List ℕ} {rs : List Record} → Given start s rs text → Stopped start s n p → ⊥
+not-stopped g (no-records f) = f (g .whole)
+not-stopped g (late w l) = omega (arith, g .limit)
+not-stopped g (malformed w l f) = none-malformed (g .holds) f
+
+-- and is the only one.
+given-one : {start : ℕ} {s t u : List ℕ} {rs qs : List Record} → Given start s rs t → Given start s qs u → (rs ≡ qs) × (t ≡ u)
+given-one g h =
+    let e = holds-one (g .holds) (h .holds) in
+    (e, exports-one (rw e at (g .exports)) (h .exports))
+
+-- The promise leaves one answer and one output only.
+pub one-export : {start : ℕ} {s before a b x y : List ℕ} → ExportPromise start s before a x → ExportPromise start s before b y
+    → (a ≡ b) × (x ≡ y)
+one-export (refused f e q) (refused g d r) =
+    let z = stopped-one f g in
+    (e ∙ cc (z .0, z .1) ∙ sym d, q ∙ sym r)
+one-export (refused f e q) (no-room g l d r) = absurd (not-stopped g f)
+one-export (refused f e q) (done g l d r) = absurd (not-stopped g f)
+one-export (no-room f k e q) (refused g d r) = absurd (not-stopped f g)
+one-export (no-room f k e q) (no-room g l d r) = (e ∙ sym d, q ∙ sym r)
+one-export (no-room f k e q) (done g l d r) = absurd (omega (arith, ap length (given-one f g .1)))
+one-export (done f k e q) (refused g d r) = absurd (not-stopped f g)
+one-export (done f k e q) (no-room g l d r) = absurd (omega (arith, ap length (given-one f g .1)))
+one-export {before = before} (done f k e q) (done g l d r) =
+    let z = given-one f g in
+    (e ∙ cc (z .0, z .1) ∙ sym d, q ∙ ap (λ (t : List ℕ). t ++ drop (length t) before) (z .1) ∙ sym r)
+
+-- What can be exported is, where there is room.
+pub exports : {start : ℕ} {s text before a x : List ℕ} {rs : List Record} → Given start s rs text → length text ≤ length before
+    → ExportPromise start s before a x
+    → (a ≡ exportNumbers (exported.Done (length text) (lineCount rs) (leftCount rs))) × (x ≡ text ++ drop (length text) before)
+exports g l p = one-export p (done g l refl refl)
+
+-- With a refusal the output is what it was.
+pub untouched : {start number p : ℕ} {s before x : List ℕ} → number ≢ 0 → ExportPromise start s before (exportNumbers (exported.Refused number p)) x
+    → x ≡ before
+untouched f (refused g e q) = q
+untouched f (no-room g l e q) = q
+untouched {number = number} f (done g l e q) = let z : number ≡ 0 = cc in absurd (f z)
+
+-- Each record is counted once: invented counts break the promise.
+pub counted : {start bytes lines others : ℕ} {s before x : List ℕ} → ExportPromise start s before (exportNumbers (exported.Done bytes lines others)) x
+    → (rs : List Record) × Holds rs s × (lines ≡ lineCount rs) × (others ≡ leftCount rs)
+counted (refused {n = n} g e q) = let z : 0 ≡ n = cc in absurd (omega (arith, stopped-number g))
+counted (no-room g l e q) = let z : _≡_ {A = ℕ} 0 25 = cc in absurd (omega arith)
+counted (done {rs = rs} g l e q) = (rs, g .holds, cc, cc)

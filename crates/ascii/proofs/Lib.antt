@@ -1,0 +1,4 @@
+pub mod Exporting
+pub mod Measuring
+pub mod Putting
+pub mod Answers

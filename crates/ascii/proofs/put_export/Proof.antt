@@ -1,0 +1,16 @@
+-- `ascii::put_export` meets its contract.
+use mathlib.Core.Path.{refl}
+use borrow.Author.Needs.{needs}
+use Rattle.ascii.specs.Passes.{line, left}
+use Rattle.ascii.proofs.Exporting.{is-left, is-line}
+use Rattle.ascii.proofs.put_export.Statement.{statement}
+use Rattle.ascii.proofs.put_export.Tie as tie
+
+pub put-export-spec : {M : Type 1} → statement M
+put-export-spec =
+    tie.close (tie.spec
+    (λ c κs. search needs)
+    (λ c. left (is-left (c .before .before .before .args .r) (c .before .frame .ensures .0) (c .if1 .taken)) refl refl)
+    (λ c κs. let p = c .before .before .before .before .pre in (p .0 .extended, p .0 .len, p .1 (is-line (c .before .before .before .before .args .r) (c .before .before .frame .ensures .0) (c .before .if1 .left))))
+    (λ c. search needs)
+    (λ c. line (is-line (c .before .before .before .before .before .before .before .args .r) (c .before .before .before .before .before .frame .ensures .0) (c .before .before .before .before .if1 .left)) (c .before .before .put-line .ensures)))

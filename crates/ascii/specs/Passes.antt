@@ -1,0 +1,45 @@
+-- What the passes of the export promise each other. No public promise cites this file.
+use Prim.Native.Nat.{ℕ, _≤_, _<_}
+use mathlib.Core.Path.{_≡_}
+use mathlib.Core.List.{List}
+use lib.ListN.{length}
+use Rattle.base.specs.Wrote.{Wrote}
+use Rattle.clock.specs.declared.DateTime.{DateTime}
+use Rattle.record.specs.declared.Record.{Record}
+use Rattle.ascii_line.specs.Line.{lineText}
+use Rattle.trace_writer.specs.Promise.{Holds, FirstMalformed}
+use Rattle.ascii.specs.declared.Measured.{Measured}
+use Rattle.ascii.specs.declared.Measured.the-variants as measured
+use Rattle.ascii.specs.Promise.{Exports, lineCount, leftCount}
+
+-- How many bytes the line of a record is, with any stamp, or 0 if it is left out.
+pub data LineBytes (r : Record) (n : ℕ) : Type 0 where
+  line : r .kind ≤ 1 → ((s : DateTime) → n ≡ length (lineText s r)) → LineBytes r n
+  left : 1 < r .kind → n ≡ 0 → LineBytes r n
+
+-- The line of a record with this stamp was put, or nothing if it is left out.
+pub data LinePut (before after : List ℕ) (at next : ℕ) (s : DateTime) (r : Record) : Type 0 where
+  line : r .kind ≤ 1 → Wrote before after at next (lineText s r) → LinePut before after at next s r
+  left : 1 < r .kind → after ≡ before → next ≡ at → LinePut before after at next s r
+
+-- Some text with this many bytes is what the records export to, whatever the start.
+abbrev pub Sized : List Record → ℕ → Type 0
+Sized rs n = (start : ℕ) → (text : List ℕ) × Exports start rs text × (n ≡ length text)
+
+-- How many bytes and lines there are, or the first malformed record.
+abbrev pub Measures : List ℕ → Measured → Type 0
+Measures s (measured.Good bytes lines others) =
+    (rs : List Record) × Holds rs s × Sized rs bytes × (lines ≡ lineCount rs) × (others ≡ leftCount rs)
+Measures s (measured.Bad p) = FirstMalformed s p
+
+-- The records export to some text for which there is room.
+pub record Fits (start : ℕ) (s out : List ℕ) : Type 0 where
+  pub records : List Record
+  pub holds : Holds records s
+  pub text : List ℕ
+  pub exports : Exports start records text
+  pub room : length text ≤ length out
+
+-- Whatever records the bytes are, and whatever text they export to, that was put at the start.
+pub record LinesPut (start : ℕ) (s before after : List ℕ) : Type 0 where
+  pub lines : (rs : List Record) (text : List ℕ) → Holds rs s → Exports start rs text → (next : ℕ) × Wrote before after 0 next text

@@ -1,0 +1,70 @@
+-- What `export` promises for every start, bytes of records and output.
+use Prim.Native.Nat.{ℕ, _+_, _-_, _≤_, _<_}
+use mathlib.Core.Path.{_≡_}
+use mathlib.Core.Bool.{cond}
+use mathlib.Core.List.{List, [], _∷_, _++_}
+use lib.Dec.{ltb}
+use lib.ListN.{length, drop}
+use Rattle.clock.specs.declared.DateTime.{DateTime}
+use Rattle.clock.specs.Start.{startLimit}
+use Rattle.clock.specs.Stamp.{Stamp}
+use Rattle.record.specs.declared.Record.{Record}
+use Rattle.ascii_line.specs.Line.{lineText}
+use Rattle.trace_writer.specs.Promise.{Whole, Holds, FirstMalformed}
+use Rattle.ascii.specs.declared.Exported.{Exported}
+use Rattle.ascii.specs.declared.Exported.the-variants as exported
+
+-- Number, place, bytes written, lines and records left out for each answer.
+abbrev pub exportNumbers : Exported → List ℕ
+exportNumbers (exported.Done bytes lines left) = 0 ∷ 0 ∷ bytes ∷ lines ∷ left ∷ []
+exportNumbers (exported.Refused n p) = n ∷ p ∷ 0 ∷ 0 ∷ 0 ∷ []
+
+-- An answer that is a refusal has a number other than 0: an export of nothing is no refusal.
+pub data Numbered : Exported → Type 0 where
+  is-done : {bytes lines left : ℕ} → Numbered (exported.Done bytes lines left)
+  is-refused : {n p : ℕ} → 0 < n → Numbered (exported.Refused n p)
+
+-- The lines of the records of kinds 0 and 1, in order, each with the stamp of its offset; the others are left out.
+pub data Exports (start : ℕ) : List Record → List ℕ → Type 0 where
+  none : Exports start [] []
+  line : {r : Record} {rs : List Record} {s : DateTime} {text : List ℕ} → r .kind ≤ 1 → Stamp start (r .offset) s → Exports start rs text
+      → Exports start (r ∷ rs) (lineText s r ++ text)
+  left : {r : Record} {rs : List Record} {text : List ℕ} → 1 < r .kind → Exports start rs text → Exports start (r ∷ rs) text
+
+-- 1 for a record of kind 0 or 1, and 0 for any other.
+unfoldable pub isFrame : Record → ℕ
+isFrame r = cond (ltb 1 (r .kind)) 0 1
+
+-- The number of records of kinds 0 and 1, and of the others.
+unfoldable pub lineCount : List Record → ℕ
+lineCount [] = 0
+lineCount (r ∷ rs) = isFrame r + lineCount rs
+
+unfoldable pub leftCount : List Record → ℕ
+leftCount [] = 0
+leftCount (r ∷ rs) = 1 - isFrame r + leftCount rs
+
+-- What is refused whatever the output, with which number at which place. In the table's order: each says that those before it do not hold.
+pub data Stopped (start : ℕ) (s : List ℕ) : ℕ → ℕ → Type 0 where
+  no-records : (Whole s → ⊥) → Stopped start s 20 0
+  late : Whole s → startLimit < start → Stopped start s 22 0
+  malformed : {place : ℕ} → Whole s → start ≤ startLimit → FirstMalformed s place → Stopped start s 23 place
+
+-- The bytes are these records, which export to this text.
+pub record Given (start : ℕ) (s : List ℕ) (rs : List Record) (text : List ℕ) : Type 0 where
+  pub whole : Whole s
+  pub limit : start ≤ startLimit
+  pub holds : Holds rs s
+  pub exports : Exports start rs text
+
+-- `export` of a start and the bytes s, into an output that held `before` and then holds `after`, gives the numbers a.
+pub data ExportPromise (start : ℕ) (s before a after : List ℕ) : Type 0 where
+  -- 20, 22 or 23
+  refused : {n p : ℕ} → Stopped start s n p → a ≡ exportNumbers (exported.Refused n p) → after ≡ before → ExportPromise start s before a after
+  -- everything good, and the output too short
+  no-room : {rs : List Record} {text : List ℕ} → Given start s rs text → length before < length text
+      → a ≡ exportNumbers (exported.Refused 25 0) → after ≡ before → ExportPromise start s before a after
+  -- the lines, and behind them what was there
+  done : {rs : List Record} {text : List ℕ} → Given start s rs text → length text ≤ length before
+      → a ≡ exportNumbers (exported.Done (length text) (lineCount rs) (leftCount rs)) → after ≡ text ++ drop (length text) before
+      → ExportPromise start s before a after
