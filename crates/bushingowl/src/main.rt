@@ -1,0 +1,41 @@
+// The bench program: one trace from standard input, its ASCII export or its refusal to standard output.
+use libc::STDIN_FILENO;
+use libc::STDOUT_FILENO;
+ghost use Prim.Native.Nat.{_≤_};
+ghost use mathlib.Core.Path.{_≡_};
+ghost use lib.ListN.{length};
+
+// One byte more than the most that an input may have, so that a longer one is told from it.
+fn input_space() -> [u8; 65537]
+    ensures { λ r. ⌜ 65537 ≡ length r ⌝ }
+{
+    [0; 65537]
+}
+
+fn records_space() -> [u8; 72800]
+    ensures { λ r. ⌜ 72800 ≡ length r ⌝ }
+{
+    [0; 72800]
+}
+
+fn page_space() -> [u8; 313040]
+    ensures { λ r. ⌜ 313040 ≡ length r ⌝ }
+{
+    [0; 313040]
+}
+
+// Prints the first n bytes of a page.
+fn print(page: &[u8], n: usize)
+    requires { ⌜ n ≤ length (now page) ⌝ }
+{
+    io::write_all(STDOUT_FILENO, &page[0..n]);
+}
+
+fn main() {
+    let mut input = input_space();
+    let mut records = records_space();
+    let mut page = page_space();
+    let got = io::read_full(STDIN_FILENO, &mut input);
+    let n = convert::printed(&input[..got], &mut records, &mut page);
+    print(&page, n);
+}
