@@ -46,5 +46,5 @@ measure-spec =
     (λ c.
     let p = rw (c .before .before .before .e .given .1) at (c .before .before .before .before .before .record-at .ensures) in
     measured-more (c .before .before .before .before .before .before .before .loop .inv) (room c) p (c .before .line-bytes .ensures) (c .frame .ensures))
-    (λ c. c .before .loop .inv .few)
+    (λ c. let f = c .before .loop .inv .few in omega arith)
     (λ c. measured (c .before .loop .inv) (c .loop-test .left)))
