@@ -1,0 +1,72 @@
+#!/usr/bin/env python3
+"""The output that convert_run must give: reads the cases in src/main.rt, and exports or refuses each input by paper 01."""
+import contextlib, importlib.util, os, re, sys
+from datetime import datetime, timedelta
+
+here = os.path.dirname(os.path.abspath(__file__))
+
+def script(name):
+    """another of these scripts, run on its own cases"""
+    spec = importlib.util.spec_from_file_location(name, os.path.join(here, name + '.py'))
+    module = importlib.util.module_from_spec(spec)
+    argv, sys.argv = sys.argv, [name, os.path.join(here, '../../crates', name, 'src/main.rt')]
+    with open(os.devnull, 'w') as nowhere, contextlib.redirect_stdout(nowhere): spec.loader.exec_module(module)
+    sys.argv = argv
+    return module
+
+trace = script('trace_run')
+
+def stamp(start, offset):
+    """start plus offset, cut down to 100 microseconds; day 0 is 30 December 1899"""
+    cut = (1000 * start + offset) // 100 * 100
+    t = datetime(1899, 12, 30) + timedelta(microseconds=cut)
+    return '%02d.%02d.%04d %02d:%02d:%02d.%04d' % (t.day, t.month, t.year, t.hour, t.minute, t.second, t.microsecond // 100)
+
+def line(start, offset, bus, kind, extended, ident, length, data):
+    parts = [stamp(start, offset), 'CANExt' if extended else 'CAN', '#%d' % (1 if bus == 0 else bus), '|']
+    parts += ['EXTENDED'] * extended + [{0: 'Rx', 1: 'Tx'}[kind], '%08x' % ident if extended else '%03x' % ident, str(length)]
+    parts += ['%02x' % b for b in data[:length]]
+    return ' '.join(parts) + '\r\n'
+
+def refusal(number, place, room):
+    said = b'refused %d at line %d\r\n' % (number, place)
+    return said if len(said) <= room else b''
+
+def convert(text, records, room):
+    if len(text) > 65_536: return refusal(1, 0, room)
+    (number, place, _, start, _, _), rows = trace.read(text, records)
+    if number: return refusal(number, place, room)
+    said = ''.join(line(start, *r) for r in rows if r[2] in (0, 1)).encode()
+    return said if len(said) <= room else refusal(25, 0, room)
+
+def part(name, text, records, room):
+    said = convert(text, records, room)
+    if len(said) > 200: said = b'%d: %s..%s' % (len(said), said[:60], said[-60:])
+    sys.stdout.buffer.write(b'%s: %s\n' % (name, said))
+
+def case(name, text): part(name, text, 72_800, 313_040)
+
+def small(name, records, room): part(name, header12 + three, records, room)
+
+def commented(name, full, last):
+    comment = lambda n: b';'.ljust(n, b'x') + b'\r\n'
+    case(name, header12 + comment(250) * full + comment(last) + three)
+
+def rows(name, n): case(name, header11 + b''.join(b'%d) 0.0 Rx 0000 0\r\n' % k for k in range(1, n + 1)))
+
+def noisy(name, before, seed, n, low, behind):
+    x, made = seed, []
+    for _ in range(n):
+        x = (x * 1_103_515_245 + 12_345) % 2 ** 31
+        made.append(x // 65_536 % 256)
+    case(name, before + bytes(b for b in made if b >= low) + behind)
+
+header11 = b';$FILEVERSION=1.1\r\n;$STARTTIME=0.0\r\n'
+header12 = b';$FILEVERSION=1.2\r\n;$STARTTIME=36585.5\r\n'
+three = b'1) 0.000 1 Rx 0123 2 0A FF\r\n2) 1500.250 2 Tx 18AB0001 0\r\n3) 1500.249 1 Rx 0124 3 RTR\r\n'
+
+def value(x): return x[2:-1].encode('latin1').decode('unicode_escape').encode('latin1') if x[0] == 'b' else int(x)
+
+calls = {'case': case, 'part': part, 'small': small, 'commented': commented, 'rows': rows, 'noisy': noisy}
+for call, given in re.findall(r'\b(case|part|small|commented|rows|noisy)\(\s*((?:(?:b"[^"]*"|[0-9_]+)(?:,\s*)?)+)', open(sys.argv[1]).read()):
+    calls[call](*map(value, re.findall(r'b"[^"]*"|[0-9_]+', given)))
