@@ -45,13 +45,13 @@ def part(start, s, first, end, room):
     say(b'untouched\n' if number else b'accepted\n' + text.ljust(room, b'.') + b'\n')
 
 def put(s, k, *f):
-    assert 1 <= k <= 12 and record.well_formed(f), f
+    assert 1 <= k <= 14 and record.well_formed(f), f
     s[20 * k - 20:20 * k] = record.bits(f)
 
 def change(s, at, byte): s[at] = byte
 
 def each():
-    for at in range(0, 240, 20): run('twelve', [0, 1, at, at + 20, 88])
+    for at in range(0, 280, 20): run('some', [0, 1, at, at + 20, 88])
 
 say = sys.stdout.buffer.write
 known = {'text': say, 'number': lambda n: say(b'%d ' % n), 'part': part, 'put': put, 'set': change, 'each': each}
@@ -67,10 +67,10 @@ def run(name, given):
     parameters, body = functions[name]
     names = dict(zip(re.findall(r'(\w+):', parameters), given))
     for statement in body.split(';\n')[:-1]:
-        array = re.fullmatch(r'\s*let (?:mut )?(\w+) = \[(\w+); 240\]', statement)
+        array = re.fullmatch(r'\s*let (?:mut )?(\w+) = \[(\w+); 280\]', statement)
         let = re.fullmatch(r'\s*let (\w+) = (.*)', statement)
         call = re.fullmatch(r'\s*(\w+)\((.*)\)', statement, re.S)
-        if array: names[array[1]] = bytearray([value(array[2], names)] * 240)
+        if array: names[array[1]] = bytearray([value(array[2], names)] * 280)
         elif let: names[let[1]] = value(let[2], names)
         else: run(call[1], [value(x, names) for x in re.findall(r'b"[^"]*"|[^,\s][^,]*', call[2])])
 

@@ -49,8 +49,8 @@ def case(name, text): part(name, text, 72_800, 313_040)
 def small(name, records, room): part(name, header12 + three, records, room)
 
 def commented(name, full, last):
-    comment = lambda n: b';'.ljust(n, b'x') + b'\r\n'
-    case(name, header12 + comment(250) * full + comment(last) + three)
+    comment = lambda n: b';' + b'x' * n + b'\r\n'
+    case(name, header12 + comment(249) * full + comment(last) + three)
 
 def rows(name, n): case(name, header11 + b''.join(b'%d) 0.0 Rx 0000 0\r\n' % k for k in range(1, n + 1)))
 

@@ -83,10 +83,10 @@ fn given(start: u64, first: usize, to: usize, room: usize) {
     number(room as u64);
 }
 
-// A case: the bytes of twelve records from one place to another, and an output of `room` bytes.
-fn part(start: u64, s: &[u8; 240], first: usize, to: usize, room: usize) {
+// A case: the bytes of fourteen records from one place to another, and an output of `room` bytes.
+fn part(start: u64, s: &[u8; 280], first: usize, to: usize, room: usize) {
     if first <= to {
-        if to <= 240 {
+        if to <= 280 {
             if room <= 700 {
                 let mut out = [46u8; 700];
                 let bytes: &[u8] = s;
@@ -106,9 +106,9 @@ fn pack_before(s: &mut [u8], end: usize, r: Record) {
     }
 }
 
-// Packs a record as the k-th of twelve.
+// Packs a record as the k-th of fourteen.
 fn put(
-    s: &mut [u8; 240],
+    s: &mut [u8; 280],
     k: usize,
     offset: u64,
     bus: u64,
@@ -127,26 +127,26 @@ fn put(
         len,
         data,
     };
-    if k <= 12 {
+    if k <= 14 {
         pack_before(s, k * 20, r);
     }
 }
 
 // Changes a byte.
-fn set(s: &mut [u8; 240], at: usize, byte: u8) {
-    if at < 240 {
+fn set(s: &mut [u8; 280], at: usize, byte: u8) {
+    if at < 280 {
         s[at] = byte;
     }
 }
 
 // Packs a received frame as the k-th.
-fn frame(s: &mut [u8; 240], k: usize, offset: u64) {
+fn frame(s: &mut [u8; 280], k: usize, offset: u64) {
     put(s, k, offset, 1, 0, 0, 0x123, 0, 0);
 }
 
-// The small trace; behind it nine records whose bits all are ones.
+// The small trace; behind it eleven records whose bits all are ones.
 fn small(to: usize, room: usize) {
-    let mut s = [255u8; 240];
+    let mut s = [255u8; 280];
     put(&mut s, 1, 0, 1, 0, 0, 0x123, 2, 0x0AFF000000000000);
     put(&mut s, 2, 1500250, 2, 1, 1, 0x18AB0001, 0, 0);
     put(&mut s, 3, 1500249, 1, 2, 0, 0x124, 3, 0);
@@ -154,15 +154,25 @@ fn small(to: usize, room: usize) {
     part(3160987200000, &s, 0, to, room);
 }
 
-// Twelve records, with every kind. The eighth gives the longest line; the last four give none.
-fn kinds(s: &mut [u8; 240], bus: u64) {
+// Fourteen records: every kind and length, IDs of both forms. The eighth gives the longest line; the last three give none.
+fn fill(s: &mut [u8; 280], bus: u64) {
     put(s, 1, 0, bus, 0, 0, 0x7FF, 0, 0);
-    put(s, 2, 999, bus, 0, 1, 0x7FF, 8, 0x0123456789ABCDEF);
-    put(s, 3, 86400000000, bus, 2, 0, 0x124, 0, 0);
-    put(s, 4, 86399999999, bus, 1, 0, 0, 8, 0xFEDCBA9876543210);
-    put(s, 5, 0, bus, 3, 1, 0x1FFFFFFF, 8, 0);
-    put(s, 6, 86400000000, bus, 1, 1, 0x18AB0001, 0, 0);
-    put(s, 7, 4294967296000, bus, 0, 0, 0x123, 1, 0xFF00000000000000);
+    put(s, 2, 999, bus, 0, 1, 0x7FF, 7, 0xFEDCBA9876543200);
+    put(s, 3, 86400000000, bus, 2, 0, 0x124, 3, 0);
+    put(s, 4, 86399999999, bus, 1, 0, 0, 1, 0x0100000000000000);
+    put(
+        s,
+        5,
+        86400000000,
+        bus,
+        1,
+        1,
+        0x18AB0001,
+        2,
+        0x0A10000000000000,
+    );
+    put(s, 6, 0, bus, 3, 1, 0x1FFFFFFF, 8, 0);
+    put(s, 7, 4294967296000, bus, 0, 0, 0x123, 3, 0);
     put(
         s,
         8,
@@ -174,17 +184,19 @@ fn kinds(s: &mut [u8; 240], bus: u64) {
         8,
         0xFFFFFFFFFFFFFFFF,
     );
-    put(s, 9, 0, bus, 4, 0, 0, 4, 0x01020A0B00000000);
-    put(s, 10, 99999999999999, bus, 5, 0, 8, 4, 0x011C7F8000000000);
-    put(s, 11, 0, bus, 2, 1, 0x124, 3, 0);
-    put(s, 12, 100, bus, 3, 0, 0x125, 8, 0);
+    put(s, 9, 0, bus, 0, 1, 0x123, 4, 0x0000000100000000);
+    put(s, 10, 100, bus, 1, 1, 0, 5, 0xFF9FF9AFFA000000);
+    put(s, 11, 0, bus, 1, 0, 0xA, 6, 0x0000000000800000);
+    put(s, 12, 0, bus, 4, 0, 0, 4, 0x01020A0B00000000);
+    put(s, 13, 99999999999999, bus, 5, 0, 8, 4, 0x011C7F8000000000);
+    put(s, 14, 0, bus, 2, 1, 0x124, 0, 0);
 }
 
-// Some of the twelve records.
-fn twelve(start: u64, bus: u64, first: usize, to: usize, room: usize) {
-    let mut s = [0u8; 240];
-    kinds(&mut s, bus);
-    text(b"twelve of bus ");
+// Some of the fourteen records.
+fn some(start: u64, bus: u64, first: usize, to: usize, room: usize) {
+    let mut s = [0u8; 280];
+    fill(&mut s, bus);
+    text(b"bus ");
     number(bus);
     part(start, &s, first, to, room);
 }
@@ -192,32 +204,15 @@ fn twelve(start: u64, bus: u64, first: usize, to: usize, room: usize) {
 // Each of them alone.
 fn each() {
     let mut at = 0;
-    while at <= 220 {
-        twelve(0, 1, at, at + 20, 88);
+    while at <= 260 {
+        some(0, 1, at, at + 20, 88);
         at += 20;
     }
 }
 
-// Every length, and IDs of both forms: the width goes by the form and never by the value.
-fn lengths(kind: u64, room: usize) {
-    let mut s = [0u8; 240];
-    put(&mut s, 1, 0, 1, kind, 0, 0, 0, 0);
-    put(&mut s, 2, 0, 1, kind, 0, 0xA, 1, 0x0100000000000000);
-    put(&mut s, 3, 0, 1, kind, 0, 0x123, 2, 0x0A10000000000000);
-    put(&mut s, 4, 0, 1, kind, 0, 0x7FF, 3, 0);
-    put(&mut s, 5, 0, 1, kind, 1, 0, 4, 0x0000000100000000);
-    put(&mut s, 6, 0, 1, kind, 1, 0x123, 5, 0xFF9FF9AFFA000000);
-    put(&mut s, 7, 0, 1, kind, 1, 0x7FF, 6, 0x0000000000800000);
-    put(&mut s, 8, 0, 1, kind, 1, 0x800, 7, 0xFEDCBA9876543200);
-    put(&mut s, 9, 0, 1, kind, 1, 0xABCDEF0, 8, 0x0123456789ABCDEF);
-    put(&mut s, 10, 0, 1, kind, 1, 0x1FFFFFFF, 0, 0);
-    text(b"lengths ");
-    part(0, &s, 0, 200, room);
-}
-
 // A record so many microseconds behind the start.
 fn stamp(start: u64, offset: u64) {
-    let mut s = [0u8; 240];
+    let mut s = [0u8; 280];
     frame(&mut s, 1, offset);
     text(b"offset ");
     number(offset);
@@ -226,7 +221,7 @@ fn stamp(start: u64, offset: u64) {
 
 // Four offsets in one export, with an error frame in between.
 fn steps(start: u64, first: u64, second: u64, third: u64, last: u64) {
-    let mut s = [0u8; 240];
+    let mut s = [0u8; 280];
     frame(&mut s, 1, first);
     frame(&mut s, 2, second);
     put(&mut s, 3, 0, 1, 5, 0, 1, 4, 0x0002000000000000);
@@ -237,8 +232,8 @@ fn steps(start: u64, first: u64, second: u64, third: u64, last: u64) {
 }
 
 // The last 100 microseconds before so many days have gone, and the first behind them.
-fn around(s: &mut [u8; 240], k: usize, days: u64)
-    requires { ⌜ (1 ≤ days) × (days ≤ 1157) × (k < 12) ⌝ }
+fn around(s: &mut [u8; 280], k: usize, days: u64)
+    requires { ⌜ (1 ≤ days) × (days ≤ 1157) × (k < 14) ⌝ }
 {
     let us = days * 86400000000;
     frame(s, k, us - 1);
@@ -250,7 +245,7 @@ fn months(start: u64, a: u64, b: u64, c: u64, d: u64, e: u64, f: u64)
     requires { ⌜ (1 ≤ a) × (a ≤ 366) × (1 ≤ b) × (b ≤ 366) × (1 ≤ c) × (c ≤ 366) ⌝ }
     requires { ⌜ (1 ≤ d) × (d ≤ 366) × (1 ≤ e) × (e ≤ 366) × (1 ≤ f) × (f ≤ 366) ⌝ }
 {
-    let mut s = [0u8; 240];
+    let mut s = [0u8; 280];
     around(&mut s, 1, a);
     around(&mut s, 3, b);
     around(&mut s, 5, c);
@@ -326,24 +321,24 @@ fn rooms() {
     small(60, 110);
     small(60, 60);
     small(60, 0);
-    twelve(3160987200000, 1, 0, 240, 391);
-    twelve(3160987200000, 1, 0, 240, 390);
-    twelve(3160987200000, 1, 0, 240, 389);
-    twelve(8639999999999, 16, 140, 160, 87);
-    twelve(8639999999999, 16, 140, 160, 86);
-    twelve(8639999999999, 16, 140, 160, 85);
+    some(3160987200000, 1, 0, 280, 590);
+    some(3160987200000, 1, 0, 280, 589);
+    some(3160987200000, 1, 0, 280, 588);
+    some(8639999999999, 16, 140, 160, 87);
+    some(8639999999999, 16, 140, 160, 86);
+    some(8639999999999, 16, 140, 160, 85);
     small(0, 4);
     small(0, 0);
-    twelve(0, 1, 160, 240, 4);
-    twelve(0, 1, 160, 240, 0);
+    some(0, 1, 220, 280, 4);
+    some(0, 1, 220, 280, 0);
 }
 
 fn buses() {
-    twelve(0, 0, 0, 240, 395);
-    twelve(0, 1, 0, 240, 395);
-    twelve(0, 9, 0, 240, 395);
-    twelve(0, 10, 0, 240, 401);
-    twelve(0, 16, 0, 240, 401);
+    some(0, 0, 0, 280, 593);
+    some(0, 1, 0, 280, 593);
+    some(0, 9, 0, 280, 593);
+    some(0, 10, 0, 280, 602);
+    some(0, 16, 0, 280, 602);
 }
 
 // 20; the last start and 22; 23 for the first of many.
@@ -352,19 +347,19 @@ fn refusals() {
     small(19, 115);
     small(21, 115);
     small(61, 115);
-    small(239, 115);
-    twelve(8639999999999, 1, 0, 20, 99);
-    twelve(8640000000000, 1, 0, 20, 99);
-    twelve(8640000000000, 1, 0, 0, 99);
-    twelve(18446744073709551615, 1, 0, 20, 99);
+    small(279, 115);
+    some(8639999999999, 1, 0, 20, 99);
+    some(8640000000000, 1, 0, 20, 99);
+    some(8640000000000, 1, 0, 0, 99);
+    some(18446744073709551615, 1, 0, 20, 99);
     small(80, 115);
-    small(240, 115);
+    small(280, 115);
 }
 
-// The first of the twelve records, with a byte changed.
+// The first of the fourteen records, with a byte changed.
 fn changed(start: u64, at: usize, byte: u8, to: usize, room: usize) {
-    let mut s = [0u8; 240];
-    kinds(&mut s, 1);
+    let mut s = [0u8; 280];
+    fill(&mut s, 1);
     set(&mut s, at, byte);
     text(b"byte ");
     number(at as u64);
@@ -374,42 +369,43 @@ fn changed(start: u64, at: usize, byte: u8, to: usize, room: usize) {
 }
 
 fn bad(at: usize, byte: u8) {
-    changed(0, at, byte, 240, 600);
+    changed(0, at, byte, 280, 600);
 }
 
-// 23, for spare bits in the first, a middle and the last record; bus 17 in these; kind 6, 6, 7; offset 100000000000255; standard IDs 83F,
+// 23, for spare bits in the first, a middle and the last record; bus 17 in these; kind 6, 7, 6, 6; offset 100000000000255; standard IDs 83F,
 // 18AB0001; length 9; data past the length; a remote frame with data; a warning with an ID; an error frame with position 16.
 fn malformed() {
     bad(19, 1);
-    bad(119, 32);
-    bad(239, 63);
+    bad(139, 32);
+    bad(279, 63);
     bad(6, 136);
-    bad(106, 137);
-    bad(226, 139);
+    bad(126, 136);
+    bad(266, 138);
     bad(6, 14);
-    bad(126, 14);
-    bad(226, 15);
+    bad(126, 15);
+    bad(226, 14);
+    bad(266, 14);
     bad(144, 64);
     bad(9, 32);
-    bad(107, 98);
-    bad(71, 127);
+    bad(87, 98);
+    bad(151, 127);
     bad(19, 64);
-    bad(212, 1);
-    bad(169, 4);
-    bad(192, 68);
+    bad(112, 1);
+    bad(229, 4);
+    bad(252, 68);
 }
 
 // Where several refusals hold, the first of the table: all of 20, 22, 23, 25, then without the first, and so on to 25 alone; then each two.
 fn order() {
-    changed(8640000000000, 239, 1, 239, 44);
-    changed(8640000000000, 239, 1, 240, 44);
-    changed(8639999999999, 239, 1, 240, 44);
-    changed(8639999999999, 239, 1, 220, 44);
-    twelve(8640000000000, 1, 0, 19, 99);
+    changed(8640000000000, 139, 1, 279, 43);
+    changed(8640000000000, 139, 1, 280, 43);
+    changed(8639999999999, 139, 1, 280, 43);
+    some(8639999999999, 1, 0, 280, 43);
+    some(8640000000000, 1, 0, 19, 99);
     changed(0, 19, 1, 39, 99);
-    twelve(0, 1, 0, 21, 0);
+    some(0, 1, 0, 21, 0);
     changed(8640000000000, 19, 1, 20, 99);
-    twelve(8640000000000, 1, 0, 20, 0);
+    some(8640000000000, 1, 0, 20, 0);
     changed(0, 19, 1, 20, 0);
 }
 
@@ -417,8 +413,6 @@ fn main() {
     rooms();
     each();
     buses();
-    lengths(0, 655);
-    lengths(1, 655);
     stamps();
     years();
     backs();

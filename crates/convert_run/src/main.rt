@@ -90,9 +90,6 @@ fn whole() {
         b"all left out",
         b";$FILEVERSION=1.2\r\n;$STARTTIME=36585.5\r\n1) 0.000 1 Rx 0123 2 RTR\r\n2) 0.000 1 Tx 00000123 0 RTR\r\n3) 0.000 1 Warng FFFFFFFF 4 00 00 00 08 BUSHEAVY\r\n4) 0.000 1 Error 0008 4 00 19 08 00\r\n",
     );
-}
-
-fn exported() {
     case(
         b"only the second",
         b";$FILEVERSION=1.2\r\n;$STARTTIME=36585.5\r\n1) 0.000 1 Rx 0123 2 RTR\r\n2) 0.000 16 Rx 00000123 8 00 11 22 33 44 55 66 7f\r\n3) 0.000 1 Error 0008 4 00 19 08 00\r\n",
@@ -115,9 +112,6 @@ fn refused() {
         b"2, line 4",
         b";$FILEVERSION=1.2\r\n;$STARTTIME=36585.5\r\n1) 0.000 1 Rx 0123 2 0A FF\r\n2) 1500.250 2 Tx 18AB0001 0\n",
     );
-}
-
-fn headers() {
     case(
         b"3, line 3",
         b";$FILEVERSION=1.2\r\n;$STARTTIME=36585.5\r\n;xxxxxxxxxxxxxxxxxxxxxxxxxxxxxxxxxxxxxxxxxxxxxxxxxxxxxxxxxxxxxxxxxxxxxxxxxxxxxxxxxxxxxxxxxxxxxxxxxxxxxxxxxxxxxxxxxxxxxxxxxxxxxxxxxxxxxxxxxxxxxxxxxxxxxxxxxxxxxxxxxxxxxxxxxxxxxxxxxxxxxxxxxxxxxxxxxxxxxxxxxxxxxxxxxxxxxxxxxxxxxxxxxxxxxxxxxxxxxxxxxxxxxxxxxx\r\n",
@@ -149,30 +143,14 @@ fn wrong_lines() {
 }
 
 fn nul() {
-    case(b"one NUL", b"\x00");
-    case(b"NUL and line end", b"\x00\r\n");
     case(
         b"many NUL",
         b"\x00\x00\x00\x00\x00\x00\x00\x00\x00\x00\x00\x00\x00\x00\x00\x00\x00\x00\x00\x00\x00\x00\x00\x00",
     );
-}
-
-fn nul_headers() {
     case(b"NUL in line 1", b";\x00$FILEVERSION=1.2\r\n");
-    case(
-        b"NUL behind line 2",
-        b";$FILEVERSION=1.2\r\n;$STARTTIME=36585.5\x00\r\n",
-    );
-}
-
-fn nul_lines() {
     case(
         b"NUL in a comment",
         b";$FILEVERSION=1.2\r\n;$STARTTIME=36585.5\r\n;\x00\r\n1) 0.000 1 Rx 0123 2 0A FF\r\n2) 1500.250 2 Tx 18AB0001 0\r\n3) 1500.249 1 Rx 0124 3 RTR\r\n",
-    );
-    case(
-        b"NUL in a row",
-        b";$FILEVERSION=1.2\r\n;$STARTTIME=36585.5\r\n1) 0.000 1 Rx 0123 2 0A\x00FF\r\n",
     );
     case(
         b"NUL at the end",
@@ -196,34 +174,16 @@ fn short() {
     small(b"page 110", 60, 110);
     small(b"page 100", 72_800, 100);
     small(b"page 22", 60, 22);
-}
-
-fn shorter() {
     small(b"page 21", 60, 21);
     small(b"page 10", 72_800, 10);
-    small(b"page 0", 60, 0);
-}
-
-fn short_records() {
     small(b"records 59", 59, 313_040);
-    small(b"records 0", 0, 313_040);
     small(b"records 59, page 100", 59, 100);
-    small(b"records 59, page 21", 59, 21);
     small(b"records 59, page 20", 59, 20);
-}
-
-fn nothing_lent() {
     part(
         b"no rows, records 0, page 0",
         b";$FILEVERSION=1.2\r\n;$STARTTIME=36585.5\r\n",
         0,
         0,
-    );
-    part(
-        b"7, records 0, page 21",
-        b";$FILEVERSION=1.2\r\n;$STARTTIME=36585.5\r\nx\r\n",
-        0,
-        21,
     );
     part(
         b"7, records 0, page 10",
@@ -252,15 +212,32 @@ fn put(out: &mut [u8], at: usize, s: &[u8]) -> usize {
     put_text(out, at, s)
 }
 
-// A comment of n bytes, all x, and its line end.
-fn comment(out: &mut [u8], at: usize, n: usize) -> usize {
-    let mut p = put(out, at, b";");
-    let mut i = 1;
+// The same for one byte.
+fn put_one(out: &mut [u8], at: usize, b: u8) -> usize {
+    if out.len() <= at {
+        return at;
+    }
+    out[at] = b;
+    at + 1
+}
+
+// Puts x so many times.
+fn fill(out: &mut [u8], at: usize, n: usize) -> usize {
+    let mut p = at;
+    let mut i = 0;
     while i < n {
-        p = put(out, p, b"x");
+        p = put_one(out, p, 120);
         i += 1;
     }
-    put(out, p, b"\r\n")
+    p
+}
+
+// A comment of n bytes after its semicolon, all x, and its line end.
+fn comment(out: &mut [u8], at: usize, n: usize) -> usize {
+    let p = put_one(out, at, 59);
+    let q = fill(out, p, n);
+    let s = put_one(out, q, 13);
+    put_one(out, s, 10)
 }
 
 // So many comments of 250 bytes.
@@ -268,13 +245,13 @@ fn comments(out: &mut [u8], at: usize, n: usize) -> usize {
     let mut p = at;
     let mut i = 0;
     while i < n {
-        p = comment(out, p, 250);
+        p = comment(out, p, 249);
         i += 1;
     }
     p
 }
 
-// The small trace with so many comments of 250 bytes, and one more comment, between its second and third lines.
+// The small trace with so many comments of 250 bytes, and one of `last` bytes after its semicolon, between its second and third lines.
 fn commented(name: &[u8], full: usize, last: usize) {
     let mut input = input_space();
     let a = put(
@@ -334,8 +311,7 @@ fn put_above(out: &mut [u8], at: usize, b: u8, low: u8) -> usize {
     if b < low {
         return at;
     }
-    let one = [b];
-    put(out, at, &one)
+    put_one(out, at, b)
 }
 
 // Takes n bytes of a generator, and puts those of at least `low`.
@@ -363,17 +339,12 @@ fn noisy(name: &[u8], before: &[u8], seed: u64, n: usize, low: u8, behind: &[u8]
 
 fn binary() {
     noisy(b"noise 1", b"", 1, 700, 0, b"");
-    noisy(b"noise 2", b"", 2, 300, 0, b"\r\n");
-    noisy(b"noise 3", b"", 12, 20000, 0, b"");
-    noisy(b"noise 4", b"", 7, 65536, 0, b"");
+    noisy(b"long noise", b"", 7, 65536, 0, b"");
 }
 
 fn binary_lines() {
     noisy(b"noise above 31", b"", 3, 220, 32, b"\r\n");
     noisy(b"long noise above 31", b"", 4, 400, 32, b"\r\n");
-}
-
-fn binary_in_traces() {
     noisy(
         b"noise in line 2",
         b";$FILEVERSION=1.2\r\n",
@@ -391,14 +362,6 @@ fn binary_in_traces() {
         b"",
     );
     noisy(
-        b"noise above 31 for a row",
-        b";$FILEVERSION=1.2\r\n;$STARTTIME=36585.5\r\n",
-        8,
-        200,
-        32,
-        b"\r\n",
-    );
-    noisy(
         b"noise in a comment",
         b";$FILEVERSION=1.2\r\n;$STARTTIME=36585.5\r\n;x",
         9,
@@ -408,43 +371,23 @@ fn binary_in_traces() {
     );
 }
 
-// 65,536 bytes are the most that an input may have.
+// The longest inputs: 3,171 rows are the most that 65,536 bytes have room for.
 fn long() {
-    commented(b"65,535 bytes", 259, 139);
-    commented(b"65,536 bytes", 259, 140);
-    commented(b"65,537 bytes", 259, 141);
-    commented(b"70,000 bytes", 277, 68);
-}
-
-fn comment_lengths() {
-    commented(b"comment of 251 bytes", 100, 251);
-    commented(b"250 comments", 250, 250);
-}
-
-// 3,171 rows are the most that 65,536 bytes have room for.
-fn row_counts() {
-    rows(b"9 rows", 9);
+    commented(b"65,536 bytes", 259, 139);
+    commented(b"65,537 bytes", 259, 140);
+    commented(b"70,000 bytes", 277, 67);
+    commented(b"comment of 251 bytes", 100, 250);
     rows(b"3,171 rows", 3171);
     rows(b"3,172 rows", 3172);
 }
 
 fn main() {
     whole();
-    exported();
     refused();
-    headers();
     wrong_lines();
     nul();
-    nul_headers();
-    nul_lines();
     short();
-    shorter();
-    short_records();
-    nothing_lent();
     binary();
     binary_lines();
-    binary_in_traces();
     long();
-    comment_lengths();
-    row_counts();
 }
