@@ -1,32 +1,9 @@
 #!/usr/bin/env python3
 """The output that convert_run must give: reads the cases in src/main.rt, and exports or refuses each input by paper 01."""
-import contextlib, importlib.util, os, re, sys
-from datetime import datetime, timedelta
-
-here = os.path.dirname(os.path.abspath(__file__))
-
-def script(name):
-    """another of these scripts, run on its own cases"""
-    spec = importlib.util.spec_from_file_location(name, os.path.join(here, name + '.py'))
-    module = importlib.util.module_from_spec(spec)
-    argv, sys.argv = sys.argv, [name, os.path.join(here, '../../crates', name, 'src/main.rt')]
-    with open(os.devnull, 'w') as nowhere, contextlib.redirect_stdout(nowhere): spec.loader.exec_module(module)
-    sys.argv = argv
-    return module
+import re, sys
+from shared import line, script
 
 trace = script('trace_run')
-
-def stamp(start, offset):
-    """start plus offset, cut down to 100 microseconds; day 0 is 30 December 1899"""
-    cut = (1000 * start + offset) // 100 * 100
-    t = datetime(1899, 12, 30) + timedelta(microseconds=cut)
-    return '%02d.%02d.%04d %02d:%02d:%02d.%04d' % (t.day, t.month, t.year, t.hour, t.minute, t.second, t.microsecond // 100)
-
-def line(start, offset, bus, kind, extended, ident, length, data):
-    parts = [stamp(start, offset), 'CANExt' if extended else 'CAN', '#%d' % (1 if bus == 0 else bus), '|']
-    parts += ['EXTENDED'] * extended + [{0: 'Rx', 1: 'Tx'}[kind], '%08x' % ident if extended else '%03x' % ident, str(length)]
-    parts += ['%02x' % b for b in data[:length]]
-    return ' '.join(parts) + '\r\n'
 
 def refusal(number, place, room):
     said = b'refused %d at line %d\r\n' % (number, place)

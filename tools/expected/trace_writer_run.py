@@ -1,18 +1,8 @@
 #!/usr/bin/env python3
 """The output that trace_writer_run must give: follows the calls in src/main.rt, and writes or refuses each trace by paper 01's "Writing" and "Numbers given back"."""
-import contextlib, importlib.util, os, re, sys
+import sys
 from fractions import Fraction
-
-here = os.path.dirname(os.path.abspath(__file__))
-
-def script(name):
-    """another of these scripts, run on its own cases"""
-    spec = importlib.util.spec_from_file_location(name, os.path.join(here, name + '.py'))
-    module = importlib.util.module_from_spec(spec)
-    argv, sys.argv = sys.argv, [name, os.path.join(here, '../../crates', name, 'src/main.rt')]
-    with open(os.devnull, 'w') as nowhere, contextlib.redirect_stdout(nowhere): spec.loader.exec_module(module)
-    sys.argv = argv
-    return module
+from shared import follower, script
 
 record, row_writer, trace = script('record_run'), script('row_writer_run'), script('trace_run')
 
@@ -59,20 +49,5 @@ def each(version, bus):
 
 say = sys.stdout.buffer.write
 known = {'text': say, 'number': lambda n: say(b'%d ' % n), 'part': part, 'put': put, 'set': change, 'each': each}
-functions = {n: (p, b) for n, p, b in re.findall(r'^fn (\w+)\(([^{]*)\) \{\n(.*?)^\}', open(sys.argv[1]).read(), re.S | re.M)}
-
-def value(x, names):
-    x = re.sub(r'^&(mut )?| as u64$|u8$', '', x.strip())
-    return x[2:-1].encode() if x[:2] == 'b"' else names[x] if x in names else int(x, 0)
-
-def run(name, given):
-    if name in known: return known[name](*given)
-    parameters, body = functions[name]
-    names = dict(zip(re.findall(r'(\w+):', parameters), given))
-    for statement in body.split(';\n')[:-1]:
-        let = re.fullmatch(r'\s*let (?:mut )?(\w+) = \[(\w+); 240\]', statement)
-        call = re.fullmatch(r'\s*(\w+)\((.*)\)', statement, re.S)
-        if let: names[let[1]] = bytearray([value(let[2], names)] * 240)
-        else: run(call[1], [value(x, names) for x in re.findall(r'b"[^"]*"|[^,\s][^,]*', call[2])])
-
+run = follower(sys.argv[1], known)
 run('main', [])
