@@ -1,0 +1,1 @@
+// No code: `specs/Cases` has the cases of paper 01 that are marked P, as one table, and `proofs/Table` the one statement about them.
