@@ -1,0 +1,138 @@
+// The boundary to C: each function below as one that C can call, described in `include/bushingowl.h`. A slice is a pointer and then a length.
+// The answer goes to the caller's array, as the numbers of paper 01.
+use ascii::Exported;
+use ascii::export;
+use record::Packed;
+use record::Record;
+use record::Unpacked;
+use record::pack;
+use record::unpack;
+use trace::Outcome;
+use trace::read;
+use trace_writer::Written;
+use trace_writer::write;
+ghost use Rattle.record.specs.Promise.{PackPromise, UnpackPromise};
+ghost use Rattle.trace.specs.Promise.{ReadPromise};
+ghost use Rattle.trace_writer.specs.Promise.{WritePromise};
+ghost use Rattle.ascii.specs.Promise.{ExportPromise};
+ghost use Rattle.capi.specs.Fields.{recordOf};
+
+// Number, place, version (11 or 12), start, rows, first step back.
+#[no_mangle]
+pub extern "C" fn bo_read(text: &[u8], out: &mut [u8], answer: &mut [u64; 6])
+    ensures { λ _. ⌜ ReadPromise (now (text .entry)) (now (out .entry)) (now (answer .exit)) (now (out .exit)) ⌝ }
+{
+    let a = read(text, out);
+    match a {
+        Outcome::Done {
+            version,
+            start,
+            rows,
+            step_back,
+        } => {
+            *answer = [0, 0, version, start, rows, step_back];
+        }
+        Outcome::Refused { number, place } => {
+            *answer = [number, place, 0, 0, 0, 0];
+        }
+    }
+}
+
+// Number, place, bytes.
+#[no_mangle]
+pub extern "C" fn bo_write(
+    version: u32,
+    start: u64,
+    records: &[u8],
+    out: &mut [u8],
+    answer: &mut [u64; 3],
+)
+    ensures { λ _. ⌜ WritePromise version start (now (records .entry)) (now (out .entry)) (now (answer .exit)) (now (out .exit)) ⌝ }
+{
+    let a = write(version as u64, start, records, out);
+    match a {
+        Written::Done { bytes } => {
+            *answer = [0, 0, bytes as u64];
+        }
+        Written::Refused { number, place } => {
+            *answer = [number, place, 0];
+        }
+    }
+}
+
+// Number, place, offset, bus, kind, extended, ID, length, data.
+#[no_mangle]
+pub extern "C" fn bo_unpack(bytes: &[u8], answer: &mut [u64; 9])
+    ensures { λ _. ⌜ UnpackPromise (now (bytes .entry)) (now (answer .exit)) ⌝ }
+{
+    let a = unpack(bytes);
+    match a {
+        Unpacked::Fields(r) => {
+            *answer = [
+                0,
+                0,
+                r.offset,
+                r.bus,
+                r.kind,
+                r.extended,
+                r.id,
+                r.len,
+                r.data,
+            ];
+        }
+        Unpacked::NotTwenty => {
+            *answer = [20, 0, 0, 0, 0, 0, 0, 0, 0];
+        }
+        Unpacked::Malformed => {
+            *answer = [23, 1, 0, 0, 0, 0, 0, 0, 0];
+        }
+    }
+}
+
+// Number, place. The fields are offset, bus, kind, extended, ID, length, data, each with any value.
+#[no_mangle]
+pub extern "C" fn bo_pack(fields: &[u64; 7], out: &mut [u8], answer: &mut [u64; 2])
+    ensures { λ _. ⌜ PackPromise (recordOf (now (fields .entry))) (now (out .entry)) (now (answer .exit)) (now (out .exit)) ⌝ }
+{
+    let r = Record {
+        offset: fields[0],
+        bus: fields[1],
+        kind: fields[2],
+        extended: fields[3],
+        id: fields[4],
+        len: fields[5],
+        data: fields[6],
+    };
+    let a = pack(r, out);
+    match a {
+        Packed::Done => {
+            *answer = [0, 0];
+        }
+        Packed::Malformed => {
+            *answer = [23, 1];
+        }
+        Packed::Short => {
+            *answer = [25, 0];
+        }
+    }
+}
+
+// Number, place, bytes, lines, left out.
+#[no_mangle]
+pub extern "C" fn bo_export(start: u64, records: &[u8], out: &mut [u8], answer: &mut [u64; 5])
+    ensures { λ _. ⌜ ExportPromise start (now (records .entry)) (now (out .entry)) (now (answer .exit)) (now (out .exit)) ⌝ }
+{
+    let a = export(start, records, out);
+    match a {
+        Exported::Done {
+            bytes,
+            lines,
+            left_out,
+        } => {
+            *answer = [0, 0, bytes as u64, lines, left_out];
+        }
+        Exported::Refused { number, place } => {
+            *answer = [number, place, 0, 0, 0];
+        }
+    }
+}
