@@ -2,7 +2,7 @@
 use Prim.Native.Nat.{ℕ, suc, _+_, _≤_, _<_}
 use mathlib.Core.Path.{_≡_, refl, ap, ap₂, sym, _∙_}
 use mathlib.Core.List.{List, [], _∷_, _++_}
-use native.Mathlib.Nat.{add-zero, add-suc, suc-add}
+use native.Mathlib.Nat.{add-zero, zero-add, add-suc, suc-add}
 use native.Mathlib.Numerals.{add-one}
 use native.Mathlib.Omega.{arith}
 use lib.ListN.{length, getD, take, drop, set, length-append, take-append-drop}
@@ -54,3 +54,7 @@ pub put-next : {l a : List ℕ} {at i : ℕ} (text : List ℕ) → i < length te
     → Wrote l (set a (at + i) (getD text i 0)) at (at + (i + 1)) (take (i + 1) text)
 put-next {l} {a} {at} {i} text h w =
     rw (add-one, take-suc text i 0 h) (then w (record { next = omega arith; stored = refl }))
+
+-- What was put at the start stands before what was behind it.
+pub at-start : {old new t : List ℕ} {e : ℕ} → Wrote old new 0 e t → length t ≤ length old → new ≡ t ++ drop (length t) old
+at-start {old} {t = t} w h = w .stored ∙ sets-eq t old 0 (omega arith) ∙ rw zero-add

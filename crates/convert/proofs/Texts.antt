@@ -1,11 +1,10 @@
 -- The line of a refusal: its parts, and how long it is.
-use Prim.Native.Nat.{ℕ, _+_, _^_, _≤_, _<_}
+use Prim.Native.Nat.{ℕ, _+_}
 use mathlib.Core.Path.{_≡_, refl, ap, _∙_}
 use mathlib.Core.List.{[], _∷_, _++_}
 use native.Mathlib.Omega.{arith}
 use lib.ListN.{length, length-append}
 use Rattle.digits.specs.House.{decimalText}
-use Rattle.digits.proofs.House.{few}
 use Rattle.convert.specs.Promise.{refusalText}
 
 pub refusal : (n p : ℕ) → refusalText n p
@@ -18,7 +17,3 @@ pub refusal-length : (n p : ℕ) → length (refusalText n p) ≡ length (decima
 refusal-length n p =
     ap length (refusal n p)
     ∙ omega (arith, length-append (decimalText n) ((32 ∷ 97 ∷ 116 ∷ 32 ∷ 108 ∷ 105 ∷ 110 ∷ 101 ∷ 32 ∷ []) ++ (decimalText p ++ (13 ∷ 10 ∷ []))), length-append (decimalText p) (13 ∷ 10 ∷ []))
-
--- what a machine word holds has at most 20 digits
-pub short : (n : ℕ) → n < 2 ^ 64 → length (decimalText n) ≤ 20
-short n h = few 19 n (omega arith)

@@ -188,3 +188,7 @@ put-last g b zero n f r = absurd (f refl)
 put-last g b (suc w) n f r =
     let e : suc w - 1 ≡ w = omega arith in
     rw fixed-step (then (rw e at r) (record { next = refl; stored = refl }))
+
+-- What a machine word holds has at most 20 digits.
+pub word-few : (n : ℕ) → n < 2 ^ 64 → length (decimalText n) ≤ 20
+word-few n h = few 19 n (omega arith)

@@ -1,4 +1,4 @@
-// One row of a trace: read into a record, and written as the house spells it.
+// One row of a trace, read into a record.
 mod reader;
 mod stages;
 

@@ -9,16 +9,12 @@ use borrow.Author.Tests.{eq-eqb, ne-eqb}
 use lib.ListN.{length, length-append}
 use Rattle.digits.specs.declared.Letters.the-variants.{Capital}
 use Rattle.digits.specs.House.{decimalText, paddedText, hexText}
-use Rattle.digits.proofs.House.{length-fixed, few}
+use Rattle.digits.proofs.House.{length-fixed}
 use Rattle.record.specs.declared.Record.{Record}
 use Rattle.fields.specs.Columns.{markRx, markTx, markWarng, markError, remoteText}
 use Rattle.row.specs.House.{fractionDigits, numberText, offsetText, busTexts, markText, idText, byteTexts, dataTexts}
 use Rattle.row_writer.specs.Parts.{spaced}
 use Rattle.row_writer.proofs.Rows.{spaced-none, spaced-more}
-
--- what a machine word holds has at most 20 digits
-pub short : (n : ℕ) → n < 2 ^ 64 → length (decimalText n) ≤ 20
-short n h = few 19 n (omega arith)
 
 pub number : (k : ℕ) → numberText k ≡ decimalText k ++ (41 ∷ [])
 unfolding numberText

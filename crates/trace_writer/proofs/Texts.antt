@@ -1,11 +1,11 @@
 -- The house texts by their parts, and how long they are.
-use Prim.Native.Nat.{ℕ, _+_, _/_, _%_, _^_, _≤_, _<_}
+use Prim.Native.Nat.{ℕ, _+_, _/_, _%_}
 use mathlib.Core.Path.{_≡_}
 use mathlib.Core.List.{[], _∷_, _++_, append-assoc}
 use native.Mathlib.Omega.{arith}
 use lib.ListN.{length, length-append}
 use Rattle.digits.specs.House.{decimalText, paddedText, figureOf}
-use Rattle.digits.proofs.House.{length-fixed, few}
+use Rattle.digits.proofs.House.{length-fixed}
 use Rattle.clock.specs.Start.{dayMs}
 use Rattle.lines.specs.Lines.{startText}
 use Rattle.trace.specs.House.{versionLineText, dayFraction, startLineText}
@@ -30,7 +30,3 @@ start-length start =
 
 pub head-length : (version start : ℕ) → length (headText version start) ≡ length (decimalText (start / dayMs)) + 44
 head-length version start = rw length-append (omega (arith, version-length version, start-length start))
-
--- what a machine word holds has at most 20 digits
-pub short : (n : ℕ) → n < 2 ^ 64 → length (decimalText n) ≤ 20
-short n h = few 19 n (omega arith)

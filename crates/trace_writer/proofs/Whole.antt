@@ -2,12 +2,10 @@
 use Prim.Native.Nat.{ℕ, _+_, _≤_}
 use mathlib.Core.Path.{_≡_, ap, _∙_}
 use mathlib.Core.List.{List, _++_, append-assoc}
-use native.Mathlib.Nat.{zero-add}
 use native.Mathlib.Omega.{arith}
 use lib.ListN.{length, drop, length-append}
-use lib.Seq.{sets-eq}
 use Rattle.base.specs.Wrote.{Wrote}
-use Rattle.base.proofs.Lists.{then}
+use Rattle.base.proofs.Lists.{then, at-start}
 use Rattle.clock.specs.Start.{startLimit}
 use Rattle.record.specs.declared.Record.{Record}
 use Rattle.trace.specs.House.{versionLineText, startLineText, rowsText, traceText, Version, Carried, Writable}
@@ -43,10 +41,6 @@ rows-few w = let f = w .few in omega (arith, rows-size 1 (w .formed) (w .carried
 pub unfit-stopped : {version start n p : ℕ} {s : List ℕ} → Whole s → Version version → start ≤ startLimit → Unfit version s n p → Stopped version start s n p
 unfit-stopped w v l (Passes.malformed f) = malformed w v l f
 unfit-stopped w v l (Passes.misfit h f) = misfit w v l h f
-
--- What was put at the start stands before what was behind it.
-pub at-start : {old new t : List ℕ} {e : ℕ} → Wrote old new 0 e t → length t ≤ length old → new ≡ t ++ drop (length t) old
-at-start {old} {t = t} w h = w .stored ∙ sets-eq t old 0 (omega arith) ∙ rw zero-add
 
 -- Line 1, line 2 and the rows are the house spelling.
 pub all-written : {p q : ℕ} {s old one two new : List ℕ} (version start : ℕ) (rs : List Record) → Holds rs s → Wrote old one 0 p (ended (versionLineText version))

@@ -5,7 +5,7 @@ use mathlib.Core.List.{List, [], _∷_}
 use native.Mathlib.Omega.{arith}
 use borrow.Author.Needs.{needs}
 use lib.ListN.{length}
-use Rattle.trace_writer.proofs.Whole.{at-start}
+use Rattle.base.proofs.Lists.{at-start}
 use Rattle.ascii.specs.Promise.{refused, no-room, done, malformed, is-done, is-refused}
 use Rattle.ascii.proofs.put_all.Statement.{statement}
 use Rattle.ascii.proofs.put_all.Tie as tie

@@ -5,10 +5,10 @@ use native.Mathlib.Nat.{zero-add}
 use native.Mathlib.Omega.{arith}
 use borrow.Author.Needs.{needs}
 use lib.ListN.{length}
-use Rattle.base.proofs.Lists.{then}
-use Rattle.trace_writer.proofs.Whole.{at-start}
+use Rattle.digits.proofs.House.{word-few}
+use Rattle.base.proofs.Lists.{then, at-start}
 use Rattle.convert.specs.Promise.{refusalText, put, short as short-of}
-use Rattle.convert.proofs.Texts.{refusal, refusal-length, short}
+use Rattle.convert.proofs.Texts.{refusal, refusal-length}
 use Rattle.convert.proofs.put_refusal.Statement.{statement}
 use Rattle.convert.proofs.put_refusal.Tie as tie
 
@@ -18,8 +18,8 @@ put-refusal-spec =
     (tie.spec
     (λ c κs. search needs)
     (λ c κs. search needs)
-    (λ c. let a = c .before .before .before .args in omega (arith, short (a .number) (omega arith), short (a .place) (omega arith), c .before .decimal-length .ensures, c .decimal-length2 .ensures))
-    (λ c. let a = c .before .before .before .args in omega (arith, short (a .number) (omega arith), short (a .place) (omega arith), c .before .decimal-length .ensures, c .decimal-length2 .ensures))
+    (λ c. let a = c .before .before .before .args in omega (arith, word-few (a .number) (omega arith), word-few (a .place) (omega arith), c .before .decimal-length .ensures, c .decimal-length2 .ensures))
+    (λ c. let a = c .before .before .before .args in omega (arith, word-few (a .number) (omega arith), word-few (a .place) (omega arith), c .before .decimal-length .ensures, c .decimal-length2 .ensures))
     (λ c. let a = c .before .before .before .before .args in short-of (omega (arith, refusal-length (a .number) (a .place), c .before .decimal-length2 .ensures, c .before .before .decimal-length .ensures, c .if1 .taken)) refl refl)
     (λ c. search needs)
     (λ c κs. omega (arith, c .before .before .if1 .left, c .before .before .before .decimal-length2 .ensures, c .before .before .before .before .decimal-length .ensures))

@@ -2,7 +2,8 @@
 use Prim.Native.Nat.{_/_}
 use native.Mathlib.Omega.{arith}
 use borrow.Author.Needs.{needs}
-use Rattle.row_writer.proofs.Columns.{short, length-offset, digits-11, digits-12}
+use Rattle.digits.proofs.House.{word-few}
+use Rattle.row_writer.proofs.Columns.{length-offset, digits-11, digits-12}
 use Rattle.row_writer.proofs.offset_length.Statement.{statement}
 use Rattle.row_writer.proofs.offset_length.Tie as tie
 
@@ -10,11 +11,11 @@ pub offset-length-spec : {M : Type 1} → statement M
 offset-length-spec =
     tie.close (tie.spec
     (λ c κs. search needs)
-    (λ c. omega (arith, short (c .before .before .args .offset / 1000) (omega arith)))
+    (λ c. omega (arith, word-few (c .before .before .args .offset / 1000) (omega arith)))
     (λ c.
     let a = c .before .before .args in
-    omega (arith, short (a .offset / 1000) (omega arith), length-offset (a .version) (a .offset), digits-11 (a .version) (c .if1 .taken)))
-    (λ c. omega (arith, short (c .before .before .args .offset / 1000) (omega arith)))
+    omega (arith, word-few (a .offset / 1000) (omega arith), length-offset (a .version) (a .offset), digits-11 (a .version) (c .if1 .taken)))
+    (λ c. omega (arith, word-few (c .before .before .args .offset / 1000) (omega arith)))
     (λ c.
     let a = c .before .before .args in
-    omega (arith, short (a .offset / 1000) (omega arith), length-offset (a .version) (a .offset), digits-12 (a .version) (c .if1 .left))))
+    omega (arith, word-few (a .offset / 1000) (omega arith), length-offset (a .version) (a .offset), digits-12 (a .version) (c .if1 .left))))
