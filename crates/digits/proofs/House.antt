@@ -4,15 +4,13 @@ use mathlib.Core.Path.{_≡_, refl, ap, sym, _∙_}
 use mathlib.Core.Logic.{_≢_, _⊎_, inl, inr, ⊎-elim}
 use mathlib.Core.Bool.{true, false}
 use mathlib.Core.List.{List, [], _∷_, _++_}
-use native.Mathlib.Nat.{add-zero, pow-zero, pow-suc, div-add-mod', div-lt-iff-lt-mul, mod-lt, mul-le-mul-right, pow-le-pow-right}
+use native.Mathlib.Nat.{pow-zero, pow-suc, div-add-mod', div-lt-iff-lt-mul, mod-lt, mul-le-mul-right, pow-le-pow-right}
 use native.Mathlib.Decide.{ℕ-discrete}
 use native.Mathlib.Numerals.{add-one}
 use native.Mathlib.Omega.{arith}
 use borrow.Author.Tests.{lt-ltb, le-ltb}
 use lib.Dec.{ltb}
-use lib.ListN.{length, getD, set, length-append, List·getD-append}
-use Rattle.base.specs.Wrote.{Wrote}
-use Rattle.base.proofs.Lists.{then}
+use lib.ListN.{length, getD, length-append, List·getD-append}
 use Rattle.base.proofs.Numbers.{below-or-not}
 use Rattle.digits.specs.declared.Letters.{Letters}
 use Rattle.digits.specs.declared.Letters.the-variants.{Capital, Small}
@@ -176,18 +174,6 @@ decimal-only {s} {t} p q = same-width decimal decimal-byte (p .digits) (q .digit
     same : (length s < length t) ⊎ (length t ≤ length s) → length s ≡ length t
     same (inl h) = absurd (shorter p q h)
     same (inr h) = ⊎-elim (λ k. absurd (shorter q p k)) (λ k. omega arith) (below-or-not (length t) (length s))
-
--- One more digit, put behind those before it.
-
-pub put-none : (g : ℕ → ℕ) (b w n i : ℕ) (l : List ℕ) → w ≡ 0 → Wrote l l i i (fixed g b w n)
-put-none g b w n i l e = rw (e, fixed-zero) (record { next = sym (add-zero i); stored = refl })
-
-pub put-last : (g : ℕ → ℕ) (b w n : ℕ) {l a : List ℕ} {i p : ℕ} → (w ≡ 0 → ⊥) → Wrote l a i p (fixed g b (w - 1) (n / b))
-    → Wrote l (set a p (g (n % b))) i (p + 1) (fixed g b w n)
-put-last g b zero n f r = absurd (f refl)
-put-last g b (suc w) n f r =
-    let e : suc w - 1 ≡ w = omega arith in
-    rw fixed-step (then (rw e at r) (record { next = refl; stored = refl }))
 
 -- What a machine word holds has at most 20 digits.
 pub word-few : (n : ℕ) → n < 2 ^ 64 → length (decimalText n) ≤ 20

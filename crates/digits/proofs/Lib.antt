@@ -1,4 +1,6 @@
 pub mod House
+pub mod Marks
 pub mod Readers
 pub mod Strings
 pub mod Theorems
+pub mod Writers

@@ -18,29 +18,25 @@ pub enum Letters {
     Small,
 }
 
-// The hexadecimal digit that a byte is, or 255.
+// One bit for each byte from `0` to `f`, the lowest for `0`: 1 for a hexadecimal digit.
+const HEX_DIGITS: u64 = 0x7E_0000_007E_03FF;
+
+// The hexadecimal digit that a byte is, or 255. No branch tells figures from letters: a text mixes the two, and a branch that
+// cannot be predicted is slow.
 pub fn hex_digit(b: u8) -> u8
     ensures { λ r. ⌜ DigitOr255 b r ⌝ }
 {
     if b < 48 {
         return 255;
     }
-    if b < 58 {
-        return b - 48;
-    }
-    if b < 65 {
+    if 102 < b {
         return 255;
     }
-    if b < 71 {
-        return b - 55;
-    }
-    if b < 97 {
+    if (HEX_DIGITS >> (b - 48) as u64) % 2 == 0 {
         return 255;
     }
-    if b < 103 {
-        return b - 87;
-    }
-    255
+    // the low four bits are a figure's digit, or a letter's digit less 9; only letters are 64 or more
+    b % 16 + 9 * (b / 64)
 }
 
 // The number that decimal digits spell, zeros kept.
@@ -125,18 +121,21 @@ pub fn put_decimal(out: &mut [u8], at: usize, n: u64) -> usize
     p + 1
 }
 
-// Puts the last w decimal digits of n at a position, zeros kept, and gives the position after them.
+// Puts the last w decimal digits of n at a position, zeros kept, and gives the position after them. The last digit is put first: it is the
+// remainder, and the quotient has those before it.
 pub fn put_padded(out: &mut [u8], at: usize, w: usize, n: u64) -> usize
     requires { ⌜ at + w ≤ length (now out) ⌝ }
     ensures { λ r. ⌜ Wrote (now (out .entry)) (now (out .exit)) at r (paddedText w n) ⌝ }
     ensures { λ r. ⌜ r ≡ at + w ⌝ }
 {
-    if w == 0 {
-        return at;
+    let mut m = n;
+    let mut i = w;
+    while 0 < i {
+        i -= 1;
+        out[at + i] = 48 + (m % 10) as u8;
+        m /= 10;
     }
-    let p = put_padded(out, at, w - 1, n / 10);
-    out[p] = 48 + (n % 10) as u8;
-    p + 1
+    at + w
 }
 
 // The byte of a hexadecimal digit.
@@ -153,16 +152,18 @@ pub fn glyph(letters: Letters, d: u8) -> u8
     }
 }
 
-// Puts the last w hexadecimal digits of n at a position, zeros kept, and gives the position after them.
+// Puts the last w hexadecimal digits of n at a position, zeros kept, and gives the position after them, from the last digit as `put_padded` does.
 pub fn put_hex(out: &mut [u8], at: usize, w: usize, n: u64, letters: Letters) -> usize
     requires { ⌜ at + w ≤ length (now out) ⌝ }
     ensures { λ r. ⌜ Wrote (now (out .entry)) (now (out .exit)) at r (hexText letters w n) ⌝ }
     ensures { λ r. ⌜ r ≡ at + w ⌝ }
 {
-    if w == 0 {
-        return at;
+    let mut m = n;
+    let mut i = w;
+    while 0 < i {
+        i -= 1;
+        out[at + i] = glyph(letters, (m % 16) as u8);
+        m /= 16;
     }
-    let p = put_hex(out, at, w - 1, n / 16, letters);
-    out[p] = glyph(letters, (n % 16) as u8);
-    p + 1
+    at + w
 }

@@ -1,8 +1,9 @@
--- `digits::hex_digit` gives the digit in each of the three ranges, and 255 outside them.
+-- `digits::hex_digit` gives the digit of a byte that is marked, and 255 for any other.
 use native.Mathlib.Omega.{arith}
 use mathlib.Core.Path.{refl}
+use borrow.Author.Needs.{needs}
 use Rattle.digits.specs.Answer.{digit, none}
-use Rattle.digits.specs.Digits.{figure, letter, capital, small}
+use Rattle.digits.proofs.Marks.{unmarked, marked}
 use Rattle.digits.proofs.Strings.{outside}
 use Rattle.digits.proofs.hex_digit.Statement.{statement}
 use Rattle.digits.proofs.hex_digit.Tie as tie
@@ -12,11 +13,10 @@ hex-digit-spec =
     tie.close
     (tie.spec
     (λ c. none (λ d. outside (λ l h. omega arith) (λ l h. omega arith) (λ l h. omega arith)) refl)
-    (λ c. digit (capital (figure (record { value = omega arith; byte = omega arith }))))
     (λ c. none (λ d. outside (λ l h. omega arith) (λ l h. omega arith) (λ l h. omega arith)) refl)
-    (λ c. omega arith)
-    (λ c. digit (capital (letter (record { low = omega arith; high = omega arith; byte = omega arith }))))
-    (λ c. none (λ d. outside (λ l h. omega arith) (λ l h. omega arith) (λ l h. omega arith)) refl)
-    (λ c. omega arith)
-    (λ c. digit (small (letter (record { low = omega arith; high = omega arith; byte = omega arith }))))
-    (λ c. none (λ d. outside (λ l h. omega arith) (λ l h. omega arith) (λ l h. omega arith)) refl))
+    (λ c. search needs)
+    (λ c. search needs)
+    (λ c. none (λ d. unmarked _ (search needs) (omega arith) (c .if3 .taken)) refl)
+    (λ c. search needs)
+    (λ c. search needs)
+    (λ c. digit (marked _ (search needs) (omega arith) (omega arith) (c .if3 .left) (λ h. omega arith) (λ l h. omega arith) (λ l. omega arith))))
