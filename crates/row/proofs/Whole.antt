@@ -11,38 +11,43 @@ use lib.Seq.{take-suc, take-length, drop-cons, set-at, append-snoc, length-take-
 use Rattle.fields.specs.Runs.{All, empty, more}
 use Rattle.fields.specs.Window.{NoEnd, LineOf}
 use Rattle.record.specs.declared.Record.{Record}
+use Rattle.row.specs.Answer.{recordOf}
 use Rattle.row.specs.Row.{Row}
 use Rattle.row.specs.Stages.{RowFound, row-found, no-row}
 use Rattle.row.proofs.Plain.{row-plain}
 use Rattle.fields.proofs.Runs.{all-map}
 
--- The line that stands before the first CR: all of s, or less of it, and then s has a CR.
+-- The line that stands before the first CR: all of s, or less of it, and then a CR stands behind it in s.
 pub record Framed (s rest : List ℕ) : Type 0 where
   pub line : List ℕ
   pub is : LineOf line (s ++ (13 ∷ rest))
-  pub all : (line ≡ s) ⊎ ((length line < length s) × (All NoEnd s → ⊥))
+  pub all : (line ≡ s) ⊎ ((more : List ℕ) × (s ≡ line ++ (13 ∷ more)))
 
 pub framed : (s rest : List ℕ) → Framed s rest
 framed [] rest = record { line = []; is = record { rest = rest; plain = empty; ended = refl }; all = inl refl }
 framed (b ∷ s) rest = go (ℕ-discrete b 13) (framed s rest)
   where
-    head : All NoEnd (b ∷ s) → b ≢ 13
-    head (more n a) = n
-
-    tail : All NoEnd (b ∷ s) → All NoEnd s
-    tail (more n a) = a
-
-    longer : {l : List ℕ} → (l ≡ s) ⊎ ((length l < length s) × (All NoEnd s → ⊥)) → (b ∷ l ≡ b ∷ s) ⊎ ((length (b ∷ l) < length (b ∷ s)) × (All NoEnd (b ∷ s) → ⊥))
+    longer : {l : List ℕ} → (l ≡ s) ⊎ ((more : List ℕ) × (s ≡ l ++ (13 ∷ more)))
+        → (b ∷ l ≡ b ∷ s) ⊎ ((more : List ℕ) × (b ∷ s ≡ b ∷ (l ++ (13 ∷ more))))
     longer (inl e) = inl (ap (λ (x : List ℕ). b ∷ x) e)
-    longer (inr (h, f)) = inr (omega arith, λ a. f (tail a))
+    longer (inr (m, e)) = inr (m, ap (λ (x : List ℕ). b ∷ x) e)
 
     go : Dec (b ≡ 13) → Framed s rest → Framed (b ∷ s) rest
-    go (yes e) x = record { line = []; is = record { rest = s ++ (13 ∷ rest); plain = empty; ended = ap (λ (y : ℕ). y ∷ (s ++ (13 ∷ rest))) e }; all = inr (omega arith, λ a. head a e) }
+    go (yes e) x = record {
+      line = [];
+      is = record { rest = s ++ (13 ∷ rest); plain = empty; ended = ap (λ (y : ℕ). y ∷ (s ++ (13 ∷ rest))) e };
+      all = inr (s, ap (λ (y : ℕ). y ∷ s) e);
+    }
     go (no n) x = record {
       line = b ∷ x .line;
       is = record { rest = x .is .rest; plain = more n (x .is .plain); ended = ap (λ (y : List ℕ). b ∷ y) (x .is .ended) };
       all = longer (x .all);
     }
+
+-- What has a CR in it is no line.
+pub cut-early : (line more : List ℕ) → All NoEnd (line ++ (13 ∷ more)) → ⊥
+cut-early [] m (more n a) = n refl
+cut-early (b ∷ line) m (more n a) = cut-early line m a
 
 -- One byte more is in the window.
 pub one-more : (s w : List ℕ) (i : ℕ) → i < length s → i < length w → set (take i s ++ drop i w) i (getD s i 0) ≡ take (i + 1) s ++ drop (i + 1) w
@@ -76,29 +81,17 @@ not-read {v} {k} {e} {s} {out} rest f n r w = let x = framed s rest in go (x .al
     plain : All NoEnd s
     plain = all-map (λ b p. p .0) (row-plain w)
 
-    go : {line : List ℕ} → (line ≡ s) ⊎ ((length line < length s) × (All NoEnd s → ⊥)) → RowFound v k line out e → ⊥
-    go (inr (h, g)) a = g plain
+    go : {line : List ℕ} → (line ≡ s) ⊎ ((more : List ℕ) × (s ≡ line ++ (13 ∷ more))) → RowFound v k line out e → ⊥
+    go {line} (inr (m, q)) a = cut-early line m (rw q at plain)
     go (inl q) (row-found u o z) = n (omega (arith, ap length q))
     go (inl q) (no-row z g) = g r (rw (← q) at w)
-
-abbrev pub recordOf : List ℕ → Record
-recordOf l =
-    record {
-      offset = getD l 0 0;
-      bus = getD l 1 0;
-      kind = getD l 2 0;
-      extended = getD l 3 0;
-      id = getD l 4 0;
-      len = getD l 5 0;
-      «data» = getD l 6 0;
-    }
 
 pub is-read : {v k e : ℕ} {s out : List ℕ} (rest : List ℕ) → ((line : List ℕ) → LineOf line (s ++ (13 ∷ rest)) → RowFound v k line out e)
     → e ≡ length s + 1 → Row v k (recordOf out) s
 is-read {v} {k} {e} {s} {out} rest f z = let x = framed s rest in go (x .all) (f (x .line) (x .is))
   where
-    go : {line : List ℕ} → (line ≡ s) ⊎ ((length line < length s) × (All NoEnd s → ⊥)) → RowFound v k line out e → Row v k (recordOf out) s
-    go (inr (h, g)) (row-found u o y) = absurd (omega arith)
-    go (inr (h, g)) (no-row y f) = absurd (omega arith)
+    go : {line : List ℕ} → (line ≡ s) ⊎ ((more : List ℕ) × (s ≡ line ++ (13 ∷ more))) → RowFound v k line out e → Row v k (recordOf out) s
+    go {line} (inr (m, q)) (row-found u o y) = absurd (omega (arith, ap length q ∙ length-append line (13 ∷ m)))
+    go (inr q) (no-row y f) = absurd (omega arith)
     go (inl q) (row-found u o y) = rw (o) (rw q at u)
     go (inl q) (no-row y g) = absurd (omega arith)

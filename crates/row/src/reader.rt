@@ -12,7 +12,7 @@ ghost use Prim.Native.Nat.{ℕ, _+_, _<_};
 ghost use lib.ListN.{length, getD, drop};
 ghost use Rattle.base.specs.Decides.{Decides};
 ghost use Rattle.fields.specs.Window.{LineOf, Lined, Starts};
-ghost use Rattle.row.specs.Answer.{ReadsRow};
+ghost use Rattle.row.specs.Answer.{recordOf, ReadsRow};
 ghost use Rattle.row.specs.Stages.{Skipped, Finds, RowFound, part, Good};
 
 // The place behind the blanks.
@@ -190,6 +190,21 @@ pub fn row_in(w: &[u8; 256], version: u64, k: u64, out: &mut [u64; 7]) -> usize
     }
 }
 
+// The record whose fields `row_in` has put.
+pub fn record_of(fields: &[u64; 7]) -> Record
+    ensures { λ r. ⌜ r ≡ recordOf (now (fields .entry)) ⌝ }
+{
+    Record {
+        offset: fields[0],
+        bus: fields[1],
+        kind: fields[2],
+        extended: fields[3],
+        id: fields[4],
+        len: fields[5],
+        data: fields[6],
+    }
+}
+
 // Puts bytes at the front of a window, and CR behind them.
 pub fn window(s: &[u8], w: &mut [u8; 256])
     requires { ⌜ length (now s) < 256 ⌝ }
@@ -220,13 +235,5 @@ pub fn read_row(line: &[u8], version: u64, k: u64) -> Reading
     if e != n + 1 {
         return Reading::Not;
     }
-    Reading::Is(Record {
-        offset: out[0],
-        bus: out[1],
-        kind: out[2],
-        extended: out[3],
-        id: out[4],
-        len: out[5],
-        data: out[6],
-    })
+    Reading::Is(record_of(&out))
 }

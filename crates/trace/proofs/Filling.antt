@@ -15,7 +15,7 @@ use Rattle.row.proofs.One.{row-one}
 use Rattle.lines.specs.Lines.{FirstLine, Comment}
 use Rattle.trace.specs.Trace.{Trace, Line, Body, over, comment, row, Spells}
 use Rattle.trace.specs.Promise.{packed}
-use Rattle.trace.specs.Passes.{There, Bars, Headed, Fits, Filled}
+use Rattle.trace.specs.Passes.{There, NoRow, Bars, Headed, Fits, Filled}
 use Rattle.trace.specs.Passes
 use Rattle.trace.proofs.Cuts.{withRecords, spells-cut}
 use Rattle.lines.proofs.Theorems.{first-one, not-both}
@@ -69,16 +69,16 @@ head-note over f w = absurd (no-line f)
 head-note (comment l c b) f w = rw (first-one (l .first) f .1) at b
 head-note (row l x b) f w = absurd (row-no-comment x (rw (← (first-one (l .first) f .0)) at w))
 
-no-bars : {v k n : ℕ} {rs : List Record} {s : List ℕ} → Body v k rs s → 0 < length s → Bars v k s n → ⊥
-no-bars over h b = omega arith
-no-bars (comment l c d) h (Passes.unended f) = f _ _ (l .first)
-no-bars (comment l c d) h (Passes.long f x) = let a = l .short in omega (arith, ap length (first-one (l .first) f .0))
-no-bars (comment l c d) h (Passes.dollar m x) = not-both (rw (first-one (l .first) (m .first) .0) at c) x
-no-bars (comment l c d) h (Passes.other m x y z) = x (rw (first-one (l .first) (m .first) .0) at c)
-no-bars (row l w d) h (Passes.unended f) = f _ _ (l .first)
-no-bars (row l w d) h (Passes.long f x) = let a = l .short in omega (arith, ap length (first-one (l .first) f .0))
-no-bars (row l w d) h (Passes.dollar m x) = row-no-dollar (rw (first-one (l .first) (m .first) .0) at w) x
-no-bars (row l w d) h (Passes.other m x y z) = z _ (rw (first-one (l .first) (m .first) .0) at w)
+no-bars : {v k n : ℕ} {rs : List Record} {s : List ℕ} → Body v k rs s → 0 < length s → ((r : Record) (line after : List ℕ) → Line line after s → Row v k r line → ⊥) → Bars s n → ⊥
+no-bars over h g b = omega arith
+no-bars (comment l c d) h g (Passes.unended f) = f _ _ (l .first)
+no-bars (comment l c d) h g (Passes.long f x) = let a = l .short in omega (arith, ap length (first-one (l .first) f .0))
+no-bars (comment l c d) h g (Passes.dollar m x) = not-both (rw (first-one (l .first) (m .first) .0) at c) x
+no-bars (comment l c d) h g (Passes.other m x y) = x (rw (first-one (l .first) (m .first) .0) at c)
+no-bars (row l w d) h g (Passes.unended f) = f _ _ (l .first)
+no-bars (row l w d) h g (Passes.long f x) = let a = l .short in omega (arith, ap length (first-one (l .first) f .0))
+no-bars (row l w d) h g (Passes.dollar m x) = row-no-dollar (rw (first-one (l .first) (m .first) .0) at w) x
+no-bars (row l w d) h g (Passes.other m x y) = g _ _ _ l w
 
 -- A record's bytes go behind those before it.
 behind : (p b old out : List ℕ) (o n : ℕ) → length p ≡ o → length b ≡ n → o + n ≤ length old → out ≡ p ++ drop o old → sets out o b ≡ (p ++ b) ++ drop (o + n) old
@@ -138,8 +138,8 @@ module _ {text old out : List ℕ} {version start at o rows : ℕ} (f : Filling 
             ∙ ap (λ (y : List ℕ). y ++ drop (o + 20) old) (sym (packed-more (f .before) r));
       }
 
-  pub never-bad : {n : ℕ} → at < length text → Bars version (rows + 1) (drop at text) n → ⊥
-  never-bad h b = no-bars (f .rest) (omega (arith, length-drop at text)) b
+  pub never-bad : {n : ℕ} → at < length text → NoRow text at version (rows + 1) → Bars (drop at text) n → ⊥
+  never-bad h r b = no-bars (f .rest) (omega (arith, length-drop at text)) r b
 
   done-body : {k : ℕ} {rs : List Record} {s : List ℕ} → Body version k rs s → s ≡ [] → rs ≡ []
   done-body over e = refl

@@ -14,7 +14,7 @@ use Rattle.lines.specs.Lines.{Comment}
 use Rattle.trace.specs.declared.Judged.the-variants as judged
 use Rattle.trace.specs.Trace.{sizeLimit, Trace, Line, Body, over, comment, row, Spells}
 use Rattle.trace.specs.Promise.{Lines, Refused, stepBack}
-use Rattle.trace.specs.Passes.{There, Bars, Headed, Judges, BackAfter}
+use Rattle.trace.specs.Passes.{There, NoRow, Bars, Headed, Judges, BackAfter}
 use Rattle.trace.specs.Promise
 use Rattle.trace.specs.Passes
 use Rattle.trace.proofs.Cuts.{endedLine, first-alone, first-whole, lines-alone, lines-append, withRecords, spells-append}
@@ -133,14 +133,14 @@ module _ {text : List ℕ} {version start at place rows last back : ℕ} (j : Ju
           (λ l. f .none z l ∙ sym (back-none (j .records) r s (rw (← (j .latest)) l)))
           (below-or-not (r .offset) last)
 
-  stops : {n : ℕ} → at < length text → Bars version (rows + 1) (drop at text) n → Stopped (later so-far) (drop at text) n
-  stops h (Passes.unended f) = Fails.unended {rest = drop at text} (λ e. omega (arith, ap length e, length-drop at text)) f
-  stops h (Passes.long f l) = Fails.long f l
-  stops h (Passes.dollar l d) = Fails.dollar l d
-  stops h (Passes.other l c d r) = Fails.no-row {t = so-far} l c d (λ q w. r q (rw (← (j .counted)) at w))
+  stops : {n : ℕ} → at < length text → NoRow text at version (rows + 1) → Bars (drop at text) n → Stopped (later so-far) (drop at text) n
+  stops h r (Passes.unended f) = Fails.unended {rest = drop at text} (λ e. omega (arith, ap length e, length-drop at text)) f
+  stops h r (Passes.long f l) = Fails.long f l
+  stops h r (Passes.dollar l d) = Fails.dollar l d
+  stops h r (Passes.other l c d) = Fails.no-row {t = so-far} l c d (λ q w. r q _ _ l (rw (← (j .counted)) at w))
 
-  pub refused-line : {n : ℕ} → length text ≤ sizeLimit → at < length text → Bars version (rows + 1) (drop at text) n → Refused text n (place + 1)
-  refused-line s h b = stopped-refused (at-later (j .two) (j .lines) (j .spelled)) (sym (take-append-drop at text)) s (stops h b)
+  pub refused-line : {n : ℕ} → length text ≤ sizeLimit → at < length text → NoRow text at version (rows + 1) → Bars (drop at text) n → Refused text n (place + 1)
+  refused-line s h r b = stopped-refused (at-later (j .two) (j .lines) (j .spelled)) (sym (take-append-drop at text)) s (stops h r b)
 
   pub finished : length text ≤ at → Judges text version start (judged.Good rows back)
   finished h = (j .records, rw (take-all at text h) at (j .spelled), j .counted, j .stepped)

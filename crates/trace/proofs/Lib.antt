@@ -12,4 +12,5 @@ pub mod Opening
 pub mod Packing
 pub mod Pieces
 pub mod Place
+pub mod Rows
 pub mod There

@@ -1,14 +1,15 @@
 -- What the passes of the reader promise each other. No public promise cites this file.
 use Prim.Native.Nat.{ℕ, _+_, _*_, _≤_, _<_}
 use mathlib.Core.Path.{_≡_}
-use mathlib.Core.List.{List, [], _++_}
+use mathlib.Core.List.{List, [], _∷_, _++_}
 use lib.ListN.{length, take, drop}
 use Rattle.record.specs.declared.Record.{Record}
+use Rattle.record.specs.Promise.{fieldsOf}
 use Rattle.row.specs.Answer.{lineLimit}
 use Rattle.row.specs.Row.{Row}
 use Rattle.lines.specs.Lines.{FirstLine, VersionLine, Comment, DollarLine}
-use Rattle.trace.specs.declared.LineIs.{LineIs}
-use Rattle.trace.specs.declared.LineIs.the-variants as line-is
+use Rattle.trace.specs.declared.Other.{Other}
+use Rattle.trace.specs.declared.Other.the-variants as an
 use Rattle.trace.specs.declared.Heading.{Heading}
 use Rattle.trace.specs.declared.Heading.the-variants as heading
 use Rattle.trace.specs.declared.Judged.{Judged}
@@ -22,19 +23,36 @@ pub record There (text : List ℕ) (at next : ℕ) (line : List ℕ) : Type 0 wh
   pub later : at < next
   pub within : next ≤ length text
 
--- From line 3 on, what is left is refused with this number.
-pub data Bars (version k : ℕ) (rest : List ℕ) : ℕ → Type 0 where
-  unended : ((line after : List ℕ) → FirstLine line after rest → ⊥) → Bars version k rest 2
-  long : {line after : List ℕ} → FirstLine line after rest → lineLimit < length line → Bars version k rest 3
-  dollar : {line after : List ℕ} → Line line after rest → DollarLine line → Bars version k rest 6
-  other : {line after : List ℕ} → Line line after rest → (Comment line → ⊥) → (DollarLine line → ⊥)
-      → ((r : Record) → Row version k r line → ⊥) → Bars version k rest 7
+-- The window holds the next n bytes of the text, and CR behind them. They are all that is left, or 252: a line within the limit, with its
+-- end, is among them.
+pub record Windowed (text : List ℕ) (at : ℕ) (w : List ℕ) (n : ℕ) : Type 0 where
+  pub behind : List ℕ
+  pub bytes : w ≡ take n (drop at text) ++ (13 ∷ behind)
+  pub within : at + n ≤ length text
+  pub few : n ≤ lineLimit + 2
+  pub most : n < lineLimit + 2 → at + n ≡ length text
 
--- What the line at `at` is: row k, a comment, or a refusal.
-abbrev pub Says : List ℕ → ℕ → ℕ → ℕ → LineIs → Type 0
-Says text at version k (line-is.Row r next) = (line : List ℕ) × There text at next line × Row version k r line
-Says text at version k (line-is.Note next) = (line : List ℕ) × There text at next line × Comment line
-Says text at version k (line-is.Bad n) = Bars version k (drop at text) n
+-- No line at `at` is row k.
+abbrev pub NoRow : List ℕ → ℕ → ℕ → ℕ → Type 0
+NoRow text at version k = (r : Record) (line after : List ℕ) → Line line after (drop at text) → Row version k r line → ⊥
+
+-- Row k stands at `at`, and the next line at `next`; or `next` is 0, and no line there is row k.
+pub data RowAt (text : List ℕ) (at version k : ℕ) (fields : List ℕ) (next : ℕ) : Type 0 where
+  here : {r : Record} {line : List ℕ} → There text at next line → Row version k r line → fields ≡ fieldsOf r
+      → RowAt text at version k fields next
+  nowhere : next ≡ 0 → NoRow text at version k → RowAt text at version k fields next
+
+-- Where no row stands from line 3 on: what is left is refused with this number.
+pub data Bars (rest : List ℕ) : ℕ → Type 0 where
+  unended : ((line after : List ℕ) → FirstLine line after rest → ⊥) → Bars rest 2
+  long : {line after : List ℕ} → FirstLine line after rest → lineLimit < length line → Bars rest 3
+  dollar : {line after : List ℕ} → Line line after rest → DollarLine line → Bars rest 6
+  other : {line after : List ℕ} → Line line after rest → (Comment line → ⊥) → (DollarLine line → ⊥) → Bars rest 7
+
+-- What the line at `at` is, if it is no row: a comment, or a refusal.
+abbrev pub Says : List ℕ → ℕ → Other → Type 0
+Says text at (an.Note next) = (line : List ℕ) × There text at next line × Comment line
+Says text at (an.Bad n) = Bars (drop at text) n
 
 -- The first line ends at `at`, and gives this version.
 pub record Versioned (text : List ℕ) (at version : ℕ) : Type 0 where

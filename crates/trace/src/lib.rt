@@ -2,8 +2,10 @@
 use lines::Ending;
 use lines::Remark;
 use lines::StartTime;
-use record::Record;
-use row::Reading;
+use record::put_record;
+use row::record_of;
+use row::row_in;
+use row::window;
 ghost use mathlib.Core.Path.{_≡_};
 ghost use mathlib.Core.List.{List, _++_};
 ghost use Prim.Native.Nat.{_*_, _≤_, _<_};
@@ -11,7 +13,7 @@ ghost use lib.ListN.{length, drop};
 ghost use Rattle.record.specs.declared.Record.{Record as AnyRecord};
 ghost use Rattle.trace.specs.Trace.{sizeLimit, Spells};
 ghost use Rattle.trace.specs.Promise.{packed, readNumbers, ReadPromise};
-ghost use Rattle.trace.specs.Passes.{Says, Versioned, Headed, Heads, Judges, Fits, BackAfter, Filled};
+ghost use Rattle.trace.specs.Passes.{Windowed, RowAt, Says, Versioned, Headed, Heads, Judges, Fits, BackAfter, Filled};
 
 // The answer of `read`.
 pub enum Outcome {
@@ -27,9 +29,8 @@ pub enum Outcome {
     },
 }
 
-// What a line from line 3 on is, with the place of the next line: the expected row, a comment, or refused with a number.
-pub enum LineIs {
-    Row(Record, usize),
+// What a line from line 3 on that is no row is: a comment, with the place of the next line, or refused with a number.
+pub enum Other {
     Note(usize),
     Bad(u64),
 }
@@ -118,27 +119,64 @@ fn second(text: &[u8], at: usize, version: u64) -> Heading
     }
 }
 
-// What the line at a place is, where row k of a version is expected.
-fn line_at(text: &[u8], at: usize, version: u64, k: u64) -> LineIs
-    requires { ⌜ at < length (now text) ⌝ }
-    ensures { λ l. ⌜ Says (now (text .entry)) at version k l ⌝ }
+// Puts the next bytes of the text into the window, and gives their number: as many as a line within the limit and its end have, if there are.
+fn window_at(text: &[u8], at: usize, w: &mut [u8; 256]) -> usize
+    requires { ⌜ at ≤ length (now text) ⌝ }
+    ensures { λ n. ⌜ Windowed (now (text .entry)) at (now (w .exit)) n ⌝ }
+{
+    let left = text.len() - at;
+    if left < 252 {
+        window(&text[at..], w);
+        return left;
+    }
+    window(&text[at..at + 252], w);
+    252
+}
+
+// Reads row k of a version at a place: the place of the next line, and the record's fields in `fields`; or 0. The line's end is not
+// searched first: a row holds no CR and no LF, so that it ends where its reading ends.
+fn row_at(
+    text: &[u8],
+    at: usize,
+    version: u64,
+    k: u64,
+    w: &mut [u8; 256],
+    fields: &mut [u64; 7],
+) -> usize
+    requires { ⌜ at ≤ length (now text) ⌝ }
+    ensures { λ n. ⌜ RowAt (now (text .entry)) at version k (now (fields .exit)) n ⌝ }
+{
+    let n = window_at(text, at, w);
+    let e = row_in(w, version, k, fields);
+    if e == 0 {
+        return 0;
+    }
+    if n <= e {
+        return 0;
+    }
+    if text[at + e] != 10 {
+        return 0;
+    }
+    at + e + 1
+}
+
+// What the line at a place is, if it is no row.
+fn other_at(text: &[u8], at: usize) -> Other
+    requires { ⌜ at ≤ length (now text) ⌝ }
+    ensures { λ l. ⌜ Says (now (text .entry)) at l ⌝ }
 {
     let end = lines::line_end(text, at);
     let Ending::At(e) = end else {
-        return LineIs::Bad(2);
+        return Other::Bad(2);
     };
     if 250 < e - at {
-        return LineIs::Bad(3);
-    }
-    let a = row::read_row(&text[at..e], version, k);
-    if let Reading::Is(r) = a {
-        return LineIs::Row(r, e + 2);
+        return Other::Bad(3);
     }
     let m = lines::remark_of(&text[at..e]);
     match m {
-        Remark::Plain => LineIs::Note(e + 2),
-        Remark::Dollar => LineIs::Bad(6),
-        Remark::Neither => LineIs::Bad(7),
+        Remark::Plain => Other::Note(e + 2),
+        Remark::Dollar => Other::Bad(6),
+        Remark::Neither => Other::Bad(7),
     }
 }
 
@@ -165,22 +203,26 @@ fn judge(text: &[u8], from: usize, version: u64, start: u64) -> Judged
     let mut rows: u64 = 0;
     let mut last: u64 = 0;
     let mut back: u64 = 0;
+    let mut w = [0u8; 256];
+    let mut fields = [0u64; 7];
     while at < text.len() {
         place += 1;
-        let l = line_at(text, at, version, rows + 1);
-        match l {
-            LineIs::Row(r, next) => {
-                rows += 1;
-                back = back_after(back, rows, last, r.offset);
-                last = r.offset;
-                at = next;
+        let next = row_at(text, at, version, rows + 1, &mut w, &mut fields);
+        if next == 0 {
+            let l = other_at(text, at);
+            match l {
+                Other::Note(after) => {
+                    at = after;
+                }
+                Other::Bad(number) => {
+                    return Judged::Bad { number, place };
+                }
             }
-            LineIs::Note(next) => {
-                at = next;
-            }
-            LineIs::Bad(number) => {
-                return Judged::Bad { number, place };
-            }
+        } else {
+            rows += 1;
+            back = back_after(back, rows, last, fields[0]);
+            last = fields[0];
+            at = next;
         }
     }
     Judged::Good { rows, back }
@@ -194,21 +236,25 @@ fn fill(text: &[u8], from: usize, version: u64, start: u64, out: &mut [u8])
     let mut at = from;
     let mut done: u64 = 0;
     let mut o = 0;
+    let mut w = [0u8; 256];
+    let mut fields = [0u64; 7];
     while at < text.len() {
-        let l = line_at(text, at, version, done + 1);
-        match l {
-            LineIs::Row(r, next) => {
-                record::put_record(out, o, r);
-                done += 1;
-                o += 20;
-                at = next;
+        let next = row_at(text, at, version, done + 1, &mut w, &mut fields);
+        if next == 0 {
+            let l = other_at(text, at);
+            match l {
+                Other::Note(after) => {
+                    at = after;
+                }
+                Other::Bad(_) => {
+                    return;
+                }
             }
-            LineIs::Note(next) => {
-                at = next;
-            }
-            LineIs::Bad(_) => {
-                return;
-            }
+        } else {
+            put_record(out, o, record_of(&fields));
+            done += 1;
+            o += 20;
+            at = next;
         }
     }
 }
