@@ -1,0 +1,98 @@
+-- No reader that keeps its promise is one of the wrong ones.
+use Prim.Native.Nat.{ℕ, _*_, _≤_}
+use mathlib.Core.Path.{_≡_, ap, sym, _∙_}
+use mathlib.Core.List.{List, [], _∷_}
+use native.Mathlib.Omega.{arith}
+use lib.ListN.{length, take, drop}
+use lib.Seq.{take-at}
+use Rattle.record.specs.declared.Record.{Record}
+use Rattle.record.specs.Bytes.{bytes}
+use Rattle.record.specs.Record.{number}
+use Rattle.record.proofs.OneRecord.{packs, one-record}
+use Rattle.trace.specs.Trace.{sizeLimit, Trace, Spells}
+use Rattle.trace.specs.Promise.{packed, ReadPromise}
+use Rattle.trace.proofs.Answers as answers
+use Rattle.trace.proofs.Answers.{not-refused}
+use Rattle.trace.proofs.One.{one-trace}
+use Rattle.trace.proofs.Packing.{packed-length}
+use Rattle.trace.proofs.There.{there, there-size}
+use Rattle.trace_writer.proofs.Lists.{first-packed, rest-packed}
+use Rattle.tightness.specs.Programs.{Bytes, Reader, Reads}
+use Rattle.tightness.specs.Wrong.{RefusesAll, SameVersion, SameStart, SameRecords, CopiesFirst, InventsRows}
+use Rattle.tightness.specs.Tight.{HandsOut, received, Tried, empty, later, older, two, copied}
+use Rattle.tightness.proofs.Tried.{frame-formed, writable, zeros, textOf}
+
+-- What spells a trace is accepted, and that trace handed out.
+pub accepts : {f : Reader} {t : Trace} → Reads f → (text out : Bytes) → length (text .list) ≤ sizeLimit → Spells t (text .list)
+    → 20 * length (t .records) ≤ length (out .list) → HandsOut t (f text out)
+accepts {f} {t} k text out h s r =
+    let z = answers.accepts h s r (k .keeps text out) in
+    let rs = t .records in
+    let n : f text out .rows ≡ length rs = cc (z .0) in
+    let l : length (packed rs) ≡ 20 * f text out .rows = packed-length rs ∙ ap (λ (i : ℕ). 20 * i) (sym n) in
+    record {
+      accepted = cc (z .0);
+      version = cc (z .0);
+      start = cc (z .0);
+      rows = n;
+      records = ap (take (20 * f text out .rows)) (z .1) ∙ take-at (packed rs) (drop (20 * length rs) (out .list)) (20 * f text out .rows) l;
+    }
+
+-- The traces that are tried have at most two records.
+room : {t : Trace} → Tried t → 20 * length (t .records) ≤ 40
+room empty = omega arith
+room later = omega arith
+room older = omega arith
+room two = omega arith
+room copied = omega arith
+
+-- Two records that differ are packed as other bytes.
+apart : bytes 20 (number (received 2)) ≡ bytes 20 (number (received 1)) → ⊥
+apart e =
+    let z = one-record (packs (frame-formed 2 (omega arith))) (record { formed = frame-formed 1 (omega arith); packed = e }) in
+    omega (arith, ap (λ (r : Record). r .id) z)
+
+copy : {s : List ℕ} (r q : Record) → s ≡ packed (r ∷ q ∷ []) → take 20 (drop 20 s) ≡ take 20 s → bytes 20 (number q) ≡ bytes 20 (number r)
+copy r q e h =
+    sym (first-packed q []) ∙ ap (take 20) (sym (rest-packed r (q ∷ []))) ∙ (rw e at h) ∙ first-packed r (q ∷ [])
+
+rows-true : {text before x : List ℕ} {n p v s k b : ℕ} {t : Trace} → ReadPromise text before (n ∷ p ∷ v ∷ s ∷ k ∷ b ∷ []) x → n ≡ 0
+    → Spells t text → k ≡ length (t .records)
+rows-true (ReadPromise.large h e q) z s = let d : _≡_ {A = ℕ} 0 1 = cc in absurd (omega arith)
+rows-true (ReadPromise.done h u r e q) z s = cc (e, ap (λ (t : Trace). length (t .records)) (one-trace u s))
+rows-true (ReadPromise.no-room h u r e q) z s = let d : _≡_ {A = ℕ} 0 8 = cc in absurd (omega arith)
+rows-true (ReadPromise.refused h f e q) z s = absurd (not-refused h s f)
+
+module _ {f : Reader} (k : Reads f) where
+  tries : {t : Trace} (w : Tried t) → HandsOut t (f (textOf w) (zeros 40))
+  tries w = accepts k (textOf w) (zeros 40) (there-size (writable w)) (there (writable w)) (room w)
+
+  pub refuses-all : RefusesAll f → ⊥
+  refuses-all h = h (textOf empty) (zeros 40) (tries empty .accepted)
+
+  pub same-version : SameVersion f → ⊥
+  same-version h =
+      let a = tries empty in
+      let b = tries older in
+      omega (arith, a .version, b .version, h (textOf empty) (textOf older) (zeros 40) (a .accepted) (b .accepted))
+
+  pub same-start : SameStart f → ⊥
+  same-start h =
+      let a = tries empty in
+      let b = tries later in
+      omega (arith, a .start, b .start, h (textOf empty) (textOf later) (zeros 40) (a .accepted) (b .accepted))
+
+  pub same-records : SameRecords f → ⊥
+  same-records h =
+      let a = tries empty in
+      let b = tries two in
+      let e = sym (a .records) ∙ h (textOf empty) (textOf two) (zeros 40) (a .accepted) (b .accepted) ∙ b .records in
+      omega (arith, ap length e, packed-length [], packed-length (received 1 ∷ received 2 ∷ []))
+
+  pub copies-first : CopiesFirst f → ⊥
+  copies-first h =
+      let a = tries two in
+      apart (copy (received 1) (received 2) (a .records) (h (textOf two) (zeros 40) (a .accepted) 1 (omega (arith, a .rows))))
+
+  pub invents-rows : InventsRows f → ⊥
+  invents-rows i = i .invented (rows-true (k .keeps (i .text) (i .out)) (i .accepted) (i .spelled))

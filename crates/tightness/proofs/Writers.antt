@@ -1,0 +1,114 @@
+-- No writer that keeps its promise is one of the wrong ones, and what it has written is read back by any reader that keeps its own.
+use Prim.Native.Nat.{ℕ, suc, _+_, _*_, _≤_}
+use mathlib.Core.Path.{_≡_, refl, ap, sym, _∙_}
+use mathlib.Core.List.{List, [], _∷_, _++_}
+use native.Mathlib.Omega.{arith}
+use lib.ListN.{length, getD, take, drop, length-replicate}
+use lib.Seq.{take-at}
+use Rattle.record.specs.declared.Record.{Record}
+use Rattle.trace.specs.Trace.{Trace}
+use Rattle.trace.specs.House.{traceText}
+use Rattle.trace.specs.Promise.{packed, ReadPromise}
+use Rattle.trace.proofs.HouseTexts.{trace-text, version-line}
+use Rattle.trace.proofs.Packing.{packed-length}
+use Rattle.trace.proofs.There.{one-house}
+use Rattle.trace_writer.specs.declared.Written.the-variants as answer
+use Rattle.trace_writer.specs.Promise.{writeNumbers, Stopped, traceOf, WritePromise}
+use Rattle.trace_writer.proofs.Answers.{writes}
+use Rattle.trace_writer.proofs.Again.{back}
+use Rattle.tightness.specs.Programs.{Bytes, FromReader, FromWriter, Reader, six, Reads, Writer, Writes, written}
+use Rattle.tightness.specs.Wrong.{RefusesWritten, DoesNothing, WritesFirst}
+use Rattle.tightness.specs.Tight.{HandsOut, received, Tried, empty, two, copied}
+use Rattle.tightness.proofs.Tried.{writable, zeros, recordsOf, textOf}
+
+-- What can be written is written.
+record Puts (t : Trace) (before : List ℕ) (a : FromWriter) : Type 0 where
+  accepted : a .number ≡ 0
+  text : written a ≡ traceText t
+  output : a .after ≡ traceText t ++ drop (length (traceText t)) before
+
+-- The first byte of a house spelling is `;`.
+semicolon : (t : Trace) (rest : List ℕ) → getD (traceText t ++ rest) 0 0 ≡ 59
+semicolon t rest = rw (trace-text, version-line)
+
+stopped-number : {version start n p : ℕ} {s : List ℕ} → Stopped version start s n p → 20 ≤ n
+stopped-number (Stopped.no-records f) = omega arith
+stopped-number (Stopped.no-version w f) = omega arith
+stopped-number (Stopped.late w v l) = omega arith
+stopped-number (Stopped.malformed w v l f) = omega arith
+stopped-number (Stopped.misfit w v l h f) = omega arith
+
+-- Number 0 says that the text is done.
+done : {version start n p m : ℕ} {s before x : List ℕ} → WritePromise version start s before (n ∷ p ∷ m ∷ []) x → n ≡ 0
+    → WritePromise version start s before (writeNumbers (answer.Done m)) x
+done (WritePromise.refused {n = i} f e q) z = let d : 0 ≡ i = cc in absurd (omega (arith, stopped-number f))
+done (WritePromise.no-room w i l e q) z = let d : _≡_ {A = ℕ} 0 25 = cc in absurd (omega arith)
+done (WritePromise.done w i l e q) z = WritePromise.done w i l (cc) q
+
+-- What was written is read back.
+again : {version start m : ℕ} {s page after text out : List ℕ} {a : FromReader} → WritePromise version start s page (writeNumbers (answer.Done m)) after
+    → text ≡ take m after → length s ≤ length out → ReadPromise text out (six a) (a .after)
+    → (rs : List Record) × (s ≡ packed rs) × HandsOut (traceOf version start rs) a
+again {s = s} {out = out} {a = a} w e l r =
+    let (rs, i, b, x) = back w l (rw e at r) in
+    let n : a .rows ≡ length rs = cc (b) in
+    let d : length s ≡ 20 * a .rows = ap length i ∙ packed-length rs ∙ ap (λ (j : ℕ). 20 * j) (sym n) in (
+      rs,
+      i,
+      record {
+        accepted = cc (b);
+        version = cc (b);
+        start = cc (b);
+        rows = n;
+        records = ap (take (20 * a .rows)) x ∙ take-at s (drop (length s) out) (20 * a .rows) d ∙ i;
+      },
+    )
+
+module _ {g : Writer} (k : Writes g) where
+  puts : {t : Trace} (w : Tried t) (out : Bytes) → length (traceText t) ≤ length (out .list)
+      → Puts t (out .list) (g (t .version) (t .start) (recordsOf t) out)
+  puts {t} w out l =
+      let a = g (t .version) (t .start) (recordsOf t) out in
+      let s = traceText t in
+      let z = writes (writable w) l (k .keeps (t .version) (t .start) (recordsOf t) out) in
+      let n : a .bytes ≡ length s = cc (z .0) in
+      record {
+        accepted = cc (z .0);
+        text = ap (take (a .bytes)) (z .1) ∙ take-at s (drop (length s) (out .list)) (a .bytes) (sym n);
+        output = z .1;
+      }
+
+  pub does-nothing : DoesNothing g → ⊥
+  does-nothing h =
+      let t = traceOf 12 0 [] in
+      let n = suc (length (traceText t)) in
+      let a = puts empty (zeros n) (omega (arith, length-replicate {A = ℕ} n 0)) in
+      let e = sym (a .output) ∙ h 12 0 (recordsOf t) (zeros n) in
+      omega (arith, semicolon t (drop (length (traceText t)) (zeros n .list)), ap (λ (s : List ℕ). getD s 0 0) e)
+
+  pub writes-first : WritesFirst g → ⊥
+  writes-first h =
+      let t = traceOf 12 0 (received 1 ∷ received 2 ∷ []) in
+      let u = traceOf 12 0 (received 1 ∷ received 1 ∷ []) in
+      let n = length (traceText t) + length (traceText u) in
+      let l = length-replicate {A = ℕ} n 0 in
+      let a = puts two (zeros n) (omega arith) in
+      let b = puts copied (zeros n) (omega arith) in
+      let e = sym (a .text) ∙ h 12 0 (received 1) (received 2 ∷ []) (recordsOf t) (recordsOf u) (zeros n) refl refl ∙ b .text in
+      omega (arith, ap (λ (x : Trace). getD (x .records) 1 (received 0) .id) (one-house (writable two) (writable copied) e))
+
+  module _ {f : Reader} (j : Reads f) where
+    pub reads-back : (version start : ℕ) (records page text out : Bytes) → g version start records page .number ≡ 0
+        → text .list ≡ written (g version start records page) → length (records .list) ≤ length (out .list)
+        → (rs : List Record) × (records .list ≡ packed rs) × HandsOut (traceOf version start rs) (f text out)
+    reads-back version start records page text out z e l =
+        again {a = f text out} (done (k .keeps version start records page) z) e l (j .keeps text out)
+
+    pub refuses-written : RefusesWritten g f → ⊥
+    refuses-written h =
+        let t = traceOf 12 0 [] in
+        let n = length (traceText t) in
+        let a = puts empty (zeros n) (omega (arith, length-replicate {A = ℕ} n 0)) in
+        let l : length (packed []) ≤ 0 = omega (arith, packed-length []) in
+        h 12 0 (recordsOf t) (zeros n) (textOf empty) (zeros 0) (a .accepted) (sym (a .text)) l
+        (reads-back 12 0 (recordsOf t) (zeros n) (textOf empty) (zeros 0) (a .accepted) (sym (a .text)) l .2 .accepted)

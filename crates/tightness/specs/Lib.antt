@@ -1,0 +1,3 @@
+pub mod Programs
+pub mod Wrong
+pub mod Tight

@@ -1,0 +1,81 @@
+-- Any reader, any writer and any exporter, whatever the code: a function of what it is given, and when it keeps its promise.
+use Prim.Native.Nat.{ℕ, _*_, _<_}
+use mathlib.Core.List.{List, [], _∷_}
+use lib.ListN.{take, drop}
+use Rattle.fields.specs.Runs.{All}
+use Rattle.trace.specs.Promise.{ReadPromise}
+use Rattle.trace_writer.specs.Promise.{WritePromise}
+use Rattle.ascii.specs.Promise.{ExportPromise}
+
+-- What a program is lent: bytes. (On a machine lengths and numbers end somewhere; what lies past that is refused with 1, 20, 21 or 22, or is
+-- room that no answer needs.)
+pub record Bytes : Type 0 where
+  pub list : List ℕ
+  pub small : All (λ b. b < 256) list
+
+-- A reader is given a text and an output. It gives six numbers, and what the output then holds.
+pub record FromReader : Type 0 where
+  pub number : ℕ
+  pub place : ℕ
+  pub version : ℕ
+  pub start : ℕ
+  pub rows : ℕ
+  pub back : ℕ
+  pub after : List ℕ
+
+abbrev pub Reader : Type 0
+Reader = Bytes → Bytes → FromReader
+
+abbrev pub six : FromReader → List ℕ
+six a = a .number ∷ a .place ∷ a .version ∷ a .start ∷ a .rows ∷ a .back ∷ []
+
+-- It keeps the promise for every text and every output.
+pub record Reads (f : Reader) : Type 0 where
+  pub keeps : (text out : Bytes) → ReadPromise (text .list) (out .list) (six (f text out)) (f text out .after)
+
+-- The records that it hands out, twenty bytes for each row, and the j-th of them, from 0.
+abbrev pub handedOut : FromReader → List ℕ
+handedOut a = take (20 * a .rows) (a .after)
+
+abbrev pub recordAt : FromReader → ℕ → List ℕ
+recordAt a j = take 20 (drop (20 * j) (handedOut a))
+
+-- A writer is given a version, a start, records and an output. It gives three numbers, and what the output then holds.
+pub record FromWriter : Type 0 where
+  pub number : ℕ
+  pub place : ℕ
+  pub bytes : ℕ
+  pub after : List ℕ
+
+abbrev pub Writer : Type 0
+Writer = ℕ → ℕ → Bytes → Bytes → FromWriter
+
+abbrev pub three : FromWriter → List ℕ
+three a = a .number ∷ a .place ∷ a .bytes ∷ []
+
+pub record Writes (g : Writer) : Type 0 where
+  pub keeps : (version start : ℕ) (records out : Bytes)
+      → WritePromise version start (records .list) (out .list) (three (g version start records out)) (g version start records out .after)
+
+-- The text that it has written.
+abbrev pub written : FromWriter → List ℕ
+written a = take (a .bytes) (a .after)
+
+-- An exporter is given a start, records and an output. It gives five numbers, and what the output then holds.
+pub record FromExporter : Type 0 where
+  pub number : ℕ
+  pub place : ℕ
+  pub bytes : ℕ
+  pub lines : ℕ
+  pub left : ℕ
+  pub after : List ℕ
+
+abbrev pub Exporter : Type 0
+Exporter = ℕ → Bytes → Bytes → FromExporter
+
+abbrev pub five : FromExporter → List ℕ
+five a = a .number ∷ a .place ∷ a .bytes ∷ a .lines ∷ a .left ∷ []
+
+pub record Exports (e : Exporter) : Type 0 where
+  pub keeps : (start : ℕ) (records out : Bytes)
+      → ExportPromise start (records .list) (out .list) (five (e start records out)) (e start records out .after)

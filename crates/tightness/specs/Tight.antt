@@ -1,0 +1,83 @@
+-- The one statement: no program that keeps its promise is one of the wrong ones, and the traces that they are tried with are real.
+use Prim.Native.Nat.{ℕ, _*_, _≤_}
+use mathlib.Core.Path.{_≡_}
+use mathlib.Core.List.{List, [], _∷_}
+use lib.ListN.{length}
+use Rattle.record.specs.declared.Record.{Record}
+use Rattle.trace.specs.Trace.{sizeLimit, Trace, Spells}
+use Rattle.trace.specs.Promise.{packed, ReadPromise}
+use Rattle.trace_writer.specs.Promise.{traceOf, WritePromise}
+use Rattle.ascii.specs.Promise.{ExportPromise}
+use Rattle.tightness.specs.Programs.{Bytes, FromReader, Reader, six, Reads, handedOut, FromWriter, Writer, three, Writes, written, FromExporter, Exporter, five, Exports}
+use Rattle.tightness.specs.Wrong.{RefusesAll, RefusesWritten, SameVersion, SameStart, SameRecords, SameAlways, DoesNothing, CopiesFirst, WritesFirst, InventsRows, InventsLeftOut, Touched}
+
+-- The text is accepted, and this trace handed out.
+pub record HandsOut (t : Trace) (a : FromReader) : Type 0 where
+  pub accepted : a .number ≡ 0
+  pub version : a .version ≡ t .version
+  pub start : a .start ≡ t .start
+  pub rows : a .rows ≡ length (t .records)
+  pub records : handedOut a ≡ packed (t .records)
+
+-- The traces that the wrong programs are tried with: without rows, in two versions and with two starts; with two rows, of IDs 1 and 2; and with
+-- the first of these copied.
+abbrev pub received : ℕ → Record
+received id = record { offset = 0; bus = 1; kind = 0; extended = 0; id = id; len = 0; «data» = 0 }
+
+pub data Tried : Trace → Type 0 where
+  empty : Tried (traceOf 12 0 [])
+  later : Tried (traceOf 12 1 [])
+  older : Tried (traceOf 11 0 [])
+  two : Tried (traceOf 12 0 (received 1 ∷ received 2 ∷ []))
+  copied : Tried (traceOf 12 0 (received 1 ∷ received 1 ∷ []))
+
+-- A trace is real: some bytes spell it, some are its records, and with room an answer with number 0 keeps each promise.
+pub record Real (t : Trace) : Type 0 where
+  pub text : Bytes
+  pub spelled : Spells t (text .list)
+  pub records : Bytes
+  pub packs : records .list ≡ packed (t .records)
+  pub is-read : (out : Bytes) → 20 * length (t .records) ≤ length (out .list)
+      → (a : FromReader) × (a .number ≡ 0) × ReadPromise (text .list) (out .list) (six a) (a .after)
+  pub is-written : (out : Bytes) → length (text .list) ≤ length (out .list)
+      → (a : FromWriter) × (a .number ≡ 0) × WritePromise (t .version) (t .start) (records .list) (out .list) (three a) (a .after)
+  pub is-exported : (out : Bytes) → 86 * length (t .records) ≤ length (out .list)
+      → (a : FromExporter) × (a .number ≡ 0) × ExportPromise (t .start) (records .list) (out .list) (five a) (a .after)
+
+pub record Tight : Type 0 where
+  -- "The promise leaves room for one answer only": two programs that keep it are the same function
+  pub one-reader : {f g : Reader} → Reads f → Reads g → (text out : Bytes) → f text out ≡ g text out
+  pub one-writer : {f g : Writer} → Writes f → Writes g → (version start : ℕ) (records out : Bytes)
+      → f version start records out ≡ g version start records out
+  pub one-exporter : {f g : Exporter} → Exports f → Exports g → (start : ℕ) (records out : Bytes) → f start records out ≡ g start records out
+  -- 1, by demand 3's acceptance: what spells a trace is accepted, given room,
+  pub accepts : {f : Reader} {t : Trace} → Reads f → (text out : Bytes) → length (text .list) ≤ sizeLimit → Spells t (text .list)
+      → 20 * length (t .records) ≤ length (out .list) → HandsOut t (f text out)
+  pub refuses-all : {f : Reader} → Reads f → RefusesAll f → ⊥
+  -- and by demand 2's reading back: what any writer has written, any reader accepts, given room
+  pub reads-back : {f : Reader} {g : Writer} → Reads f → Writes g → (version start : ℕ) (records page text out : Bytes)
+      → g version start records page .number ≡ 0 → text .list ≡ written (g version start records page)
+      → length (records .list) ≤ length (out .list)
+      → (rs : List Record) × (records .list ≡ packed rs) × HandsOut (traceOf version start rs) (f text out)
+  pub refuses-written : {f : Reader} {g : Writer} → Reads f → Writes g → RefusesWritten g f → ⊥
+  -- 2
+  pub same-version : {f : Reader} → Reads f → SameVersion f → ⊥
+  pub same-start : {f : Reader} → Reads f → SameStart f → ⊥
+  pub same-records : {f : Reader} → Reads f → SameRecords f → ⊥
+  pub same-always : {f : Reader} → Reads f → SameAlways f → ⊥
+  -- 3
+  pub does-nothing : {g : Writer} → Writes g → DoesNothing g → ⊥
+  -- 4
+  pub copies-first : {f : Reader} → Reads f → CopiesFirst f → ⊥
+  pub writes-first : {g : Writer} → Writes g → WritesFirst g → ⊥
+  -- 5
+  pub invents-rows : {f : Reader} → Reads f → InventsRows f → ⊥
+  pub invents-left-out : {e : Exporter} → Exports e → InventsLeftOut e → ⊥
+  -- 6
+  pub reader-touches : {f : Reader} → Reads f → (text out : Bytes) → Touched (six (f text out)) (out .list) (f text out .after) → ⊥
+  pub writer-touches : {g : Writer} → Writes g → (version start : ℕ) (records out : Bytes)
+      → Touched (three (g version start records out)) (out .list) (g version start records out .after) → ⊥
+  pub exporter-touches : {e : Exporter} → Exports e → (start : ℕ) (records out : Bytes)
+      → Touched (five (e start records out)) (out .list) (e start records out .after) → ⊥
+  -- and what they were tried with
+  pub real : {t : Trace} → Tried t → Real t

@@ -1,0 +1,89 @@
+-- The wrong programs of paper 01, "How tight a promise is": "These must be caught".
+use Prim.Native.Nat.{ℕ, suc, _≤_, _<_}
+use mathlib.Core.Path.{_≡_}
+use mathlib.Core.Logic.{_≢_, _⊎_}
+use mathlib.Core.List.{List, [], _∷_}
+use lib.ListN.{length, getD, drop, replicate}
+use Rattle.record.specs.declared.Record.{Record}
+use Rattle.trace.specs.Trace.{Trace, Spells}
+use Rattle.trace.specs.Promise.{packed}
+use Rattle.trace_writer.specs.Promise.{Holds}
+use Rattle.tightness.specs.Programs.{Bytes, FromReader, Reader, handedOut, recordAt, Writer, written, Exporter}
+
+-- 1. "A reader that refuses everything": its number is never 0;
+abbrev pub RefusesAll : Reader → Type 0
+RefusesAll f = (text out : Bytes) → f text out .number ≢ 0
+
+-- or it refuses at least all that a writer has written, also where there is room for the records.
+abbrev pub RefusesWritten : Writer → Reader → Type 0
+RefusesWritten g f =
+    (version start : ℕ) (records page text out : Bytes) → g version start records page .number ≡ 0
+    → text .list ≡ written (g version start records page) → length (records .list) ≤ length (out .list) → f text out .number ≢ 0
+
+-- 2. "One that hands out the same trace always": version, start and records are the same for all texts that it accepts. One part of the
+-- trace that is always the same is wrong enough.
+abbrev pub Always : {A : Type 0} → (FromReader → A) → Reader → Type 0
+Always part f =
+    (text other out : Bytes) → f text out .number ≡ 0 → f other out .number ≡ 0 → part (f text out) ≡ part (f other out)
+
+abbrev pub SameVersion : Reader → Type 0
+SameVersion = Always (λ a. a .version)
+
+abbrev pub SameStart : Reader → Type 0
+SameStart = Always (λ a. a .start)
+
+abbrev pub SameRecords : Reader → Type 0
+SameRecords = Always handedOut
+
+abbrev pub SameAlways : Reader → Type 0
+SameAlways f = SameVersion f × SameStart f × SameRecords f
+
+-- 3. "A writer that does nothing": the output stays what it was, whatever it is given.
+abbrev pub DoesNothing : Writer → Type 0
+DoesNothing g = (version start : ℕ) (records out : Bytes) → g version start records out .after ≡ out .list
+
+-- 4. "One that treats the first row truly and copies it for the rest": each record of a reader is its first;
+abbrev pub CopiesFirst : Reader → Type 0
+CopiesFirst f = (text out : Bytes) → f text out .number ≡ 0 → (j : ℕ) → j < f text out .rows → recordAt (f text out) j ≡ recordAt (f text out) 0
+
+-- a writer's text is that of its first record, as often as there are records.
+abbrev pub WritesFirst : Writer → Type 0
+WritesFirst g =
+    (version start : ℕ) (r : Record) (rs : List Record) (records copies out : Bytes) → records .list ≡ packed (r ∷ rs)
+    → copies .list ≡ packed (replicate (length (r ∷ rs)) r)
+    → written (g version start records out) ≡ written (g version start copies out)
+
+-- 5. "Invented counts of rows": for some text that it accepts, a reader's rows are not "the list's own length", of the records that the
+-- text spells;
+pub record InventsRows (f : Reader) : Type 0 where
+  pub text : Bytes
+  pub out : Bytes
+  pub trace : Trace
+  pub spelled : Spells trace (text .list)
+  pub accepted : f text out .number ≡ 0
+  pub invented : f text out .rows ≢ length (trace .records)
+
+-- "or left-out records": for some records that it accepts, an exporter's lines or left-out records are not "the number of kinds 0 and 1,
+-- by definition", or of the others.
+pub data Counted : List Record → ℕ → ℕ → Type 0 where
+  none : Counted [] 0 0
+  frame : {r : Record} {rs : List Record} {lines left : ℕ} → r .kind ≤ 1 → Counted rs lines left → Counted (r ∷ rs) (suc lines) left
+  other : {r : Record} {rs : List Record} {lines left : ℕ} → 2 ≤ r .kind → Counted rs lines left → Counted (r ∷ rs) lines (suc left)
+
+pub record InventsLeftOut (e : Exporter) : Type 0 where
+  pub start : ℕ
+  pub given : Bytes
+  pub out : Bytes
+  pub records : List Record
+  pub holds : Holds records (given .list)
+  pub lines : ℕ
+  pub left : ℕ
+  pub counted : Counted records lines left
+  pub accepted : e start given out .number ≡ 0
+  pub invented : (e start given out .lines ≢ lines) ⊎ (e start given out .left ≢ left)
+
+-- 6. "A refusal gives number and place, zeros for all else, and the output is untouched": one whose first number is not 0, and that gives some
+-- count or touches the output all the same. The numbers are those of a reader, a writer or an exporter.
+pub record Touched (numbers before after : List ℕ) : Type 0 where
+  pub refused : getD numbers 0 0 ≢ 0
+  pub touched : (after ≢ before) ⊎ ((i : ℕ) × (getD (drop 2 numbers) i 0 ≢ 0))
