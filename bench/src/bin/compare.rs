@@ -1,0 +1,50 @@
+//! Compares the library with the expert: `compare [INPUTS [SEED]]`.
+
+use bushingowl_bench::compare::inputs::one_input;
+use bushingowl_bench::compare::limits::limits;
+use bushingowl_bench::compare::runs::Runs;
+use bushingowl_bench::compare::Difference;
+use std::process::ExitCode;
+
+const INPUTS: u64 = 1_000_000;
+const SEED: u64 = 20_261_115;
+
+fn main() -> ExitCode {
+    let mut arguments = std::env::args().skip(1).map(|word| word.parse());
+    let (Ok(inputs), Ok(seed)) = (
+        arguments.next().unwrap_or(Ok(INPUTS)),
+        arguments.next().unwrap_or(Ok(SEED)),
+    ) else {
+        eprintln!("compare [INPUTS [SEED]]");
+        return ExitCode::from(2);
+    };
+    println!("seed {seed}");
+    let mut runs = Runs::new(seed);
+    for input in 1..=inputs {
+        if let Err(difference) = one_input(&mut runs) {
+            return differs(&format!("input {input}"), &difference);
+        }
+    }
+    println!("{inputs} inputs at random done, now the size limits");
+    if let Err(difference) = limits(&mut runs) {
+        return differs("size limits", &difference);
+    }
+    finish(&runs, inputs)
+}
+
+fn differs(at: &str, difference: &Difference) -> ExitCode {
+    println!("{at}: {}", difference.what);
+    println!("{}", difference.input);
+    ExitCode::FAILURE
+}
+
+fn finish(runs: &Runs, inputs: u64) -> ExitCode {
+    runs.tally.print();
+    let unseen = runs.tally.unseen();
+    if !unseen.is_empty() {
+        println!("never given: {unseen:?}; try more inputs");
+        return ExitCode::FAILURE;
+    }
+    println!("{inputs} inputs, 0 differ");
+    ExitCode::SUCCESS
+}

@@ -1,0 +1,142 @@
+//! One input at random, of any kind.
+
+use super::runs::Runs;
+use super::Difference;
+use crate::inputs::damage::{damage, damage_records};
+use crate::inputs::random::Random;
+use crate::inputs::records::{changed, packed, packed_all, record};
+use crate::inputs::spelling::Spelled;
+use crate::inputs::{noise, LAST_START};
+
+type Checked = Result<(), Difference>;
+
+pub fn one_input(runs: &mut Runs) -> Checked {
+    match runs.random.below(20) {
+        0..=5 => spelled(runs),
+        6..=11 => damaged(runs),
+        12 => read(runs, "read: noise", noise::bytes),
+        13 => read(runs, "read: noise of a trace's bytes", noise::letters),
+        14 => read(runs, "read: noise of a row's words", noise::words),
+        15 => write(runs),
+        16 => export(runs),
+        17 => unpack(runs),
+        _ => pack(runs),
+    }
+}
+
+fn spelled(runs: &mut Runs) -> Checked {
+    let spelled = trace(&mut runs.random);
+    let known = (spelled.answer(), &*spelled.records());
+    runs.read("read: good trace", &spelled.text, Some(known))?;
+    Ok(())
+}
+
+fn damaged(runs: &mut Runs) -> Checked {
+    let mut text = trace(&mut runs.random).text;
+    damage(&mut runs.random, &mut text);
+    runs.read("read: damaged trace", &text, None)?;
+    Ok(())
+}
+
+fn trace(random: &mut Random) -> Spelled {
+    let most_rows = match random.below(1000) {
+        0 => 3000,
+        1..=50 => 100,
+        _ => 9,
+    };
+    Spelled::new(random, most_rows)
+}
+
+fn read(runs: &mut Runs, kind: &'static str, make: fn(&mut Random) -> Vec<u8>) -> Checked {
+    let text = make(&mut runs.random);
+    runs.read(kind, &text, None)?;
+    Ok(())
+}
+
+fn write(runs: &mut Runs) -> Checked {
+    let random = &mut runs.random;
+    let version = random.pick(&[11, 12]);
+    let (good, records) = list(random, u64::from(version));
+    let kind = if good {
+        "write: good records"
+    } else {
+        "write: other records"
+    };
+    let version = match random.below(10) {
+        0 => random.pick(&[0, 1, 2, 10, 13, 20, 21, 256 + 11, u32::MAX, 23 - version]),
+        _ => version,
+    };
+    let start = start(random);
+    runs.write(kind, version, start, &records)?;
+    Ok(())
+}
+
+fn export(runs: &mut Runs) -> Checked {
+    let random = &mut runs.random;
+    let version = random.pick(&[11, 12]);
+    let (good, records) = list(random, version);
+    let kind = if good {
+        "export: good records"
+    } else {
+        "export: other records"
+    };
+    let start = start(random);
+    runs.export(kind, start, &records)?;
+    Ok(())
+}
+
+/// Packed records, and whether they are good for the version.
+fn list(random: &mut Random, version: u64) -> (bool, Vec<u8>) {
+    let most = random.pick(&[3, 3, 10, 10, 50]);
+    let count = random.below(most);
+    let rows: Vec<_> = (0..count).map(|_| record(random, version)).collect();
+    let mut records = packed_all(&rows);
+    match random.below(6) {
+        0..=2 => return (true, records),
+        3 => damage_records(random, &mut records),
+        4 => {
+            records.extend(packed(&record(random, 23 - version)));
+            records.extend(packed(&record(random, version)));
+            if random.once_in(2) {
+                damage_records(random, &mut records);
+            }
+        }
+        _ => records = (0..20 * count).map(|_| random.byte()).collect(),
+    }
+    (false, records)
+}
+
+fn start(random: &mut Random) -> u64 {
+    let any = random.number() % (LAST_START + 1);
+    let past = random.pick(&[LAST_START + 1, u64::MAX, 1 << 63, 1 << 43]);
+    random.pick(&[any, any, any, any, any, any, 0, LAST_START, past])
+}
+
+fn unpack(runs: &mut Runs) -> Checked {
+    let random = &mut runs.random;
+    let version = random.pick(&[11, 12]);
+    let mut record = packed(&record(random, version)).to_vec();
+    match random.below(5) {
+        0 => return runs.unpack("unpack: good record", &record),
+        1 | 2 => {
+            let bit = random.below(160);
+            record[bit / 8] ^= 1 << (bit % 8);
+        }
+        3 => record.fill_with(|| random.byte()),
+        _ => record.resize(random.pick(&[0, 1, 19, 20, 21, 40]), 0),
+    }
+    runs.unpack("unpack: other record", &record)
+}
+
+fn pack(runs: &mut Runs) -> Checked {
+    let random = &mut runs.random;
+    let version = random.pick(&[11, 12]);
+    let mut fields = record(random, version);
+    if random.once_in(3) {
+        return runs.pack("pack: good fields", &fields);
+    }
+    for _ in 0..random.pick(&[1, 1, 1, 2, 7]) {
+        fields = changed(random, fields);
+    }
+    runs.pack("pack: other fields", &fields)
+}

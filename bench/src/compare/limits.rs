@@ -1,0 +1,103 @@
+//! The largest inputs, and those one past them.
+
+use super::runs::Runs;
+use super::Difference;
+use crate::inputs::records::{record, Fields};
+use crate::inputs::spelling::Spelled;
+use crate::inputs::style::Style;
+use crate::inputs::LAST_START;
+
+const LONGEST_TEXT: usize = 134_217_728;
+const MOST_ROWS: usize = 999_999;
+/// The most bytes of a line with its end.
+const LONGEST_LINE: usize = 252;
+const KIND: &str = "size limits";
+
+type Checked = Result<(), Difference>;
+
+pub fn limits(runs: &mut Runs) -> Checked {
+    for version in [11, 12] {
+        let rows: Vec<Fields> = (0..MOST_ROWS)
+            .map(|_| record(&mut runs.random, version))
+            .collect();
+        let most = Spelled::of(&mut runs.random, version, rows, &Style::plain());
+        let none = Spelled::of(&mut runs.random, version, Vec::new(), &Style::plain());
+        lists(runs, version as u32, &most.records())?;
+        rows_past_the_last(runs, &most)?;
+        texts(runs, most)?;
+        texts(runs, none)?;
+    }
+    Ok(())
+}
+
+/// As many records as there may be, one byte more, and one record more.
+fn lists(runs: &mut Runs, version: u32, records: &[u8]) -> Checked {
+    for more in [0, 1, 20] {
+        let number = if more == 0 { 0 } else { 20 };
+        let list = [records, &vec![0; more]].concat();
+        let written = runs.write(KIND, version, LAST_START, &list)?;
+        expect("records written", number, 0, &written)?;
+        let exported = runs.export(KIND, LAST_START, &list)?;
+        expect("records exported", number, 0, &exported)?;
+    }
+    Ok(())
+}
+
+/// As many rows as there may be, and one more, with several numbers.
+fn rows_past_the_last(runs: &mut Runs, most: &Spelled) -> Checked {
+    runs.read(KIND, &most.text, Some((most.answer(), &most.records())))?;
+    let lines = most.text.iter().filter(|&&b| b == b'\n').count() as u64;
+    let fields = match most.version {
+        11 => "0.0 Rx 0123 0",
+        _ => "0.000 1 Rx 0123 0",
+    };
+    for number in ["1000000", "999999", "000000", "0", "1"] {
+        let row = format!("{number}) {fields}\r\n");
+        let text = [&most.text, row.as_bytes()].concat();
+        let read = runs.read(KIND, &text, None)?;
+        expect("one row more", 7, lines + 1, &read)?;
+    }
+    Ok(())
+}
+
+/// A text of as many bytes as it may have, and of one more.
+fn texts(runs: &mut Runs, spelled: Spelled) -> Checked {
+    let (known, records) = (spelled.answer(), spelled.records());
+    let mut text = spelled.text;
+    fill_up(&mut text);
+    runs.read(KIND, &text, Some((known, &records)))?;
+    for more in b"\n;" {
+        text.push(*more);
+        let read = runs.read(KIND, &text, None)?;
+        expect("one byte more", 1, 0, &read)?;
+        text.pop();
+    }
+    Ok(())
+}
+
+/// Adds comments until the text is just as long as it may be.
+fn fill_up(text: &mut Vec<u8>) {
+    while text.len() < LONGEST_TEXT {
+        let room = LONGEST_TEXT - text.len();
+        let len = match room {
+            0..=LONGEST_LINE => room,
+            // The last comment needs three bytes.
+            253 | 254 => room - 3,
+            _ => LONGEST_LINE,
+        };
+        let end = text.len() + len;
+        text.push(b';');
+        text.resize(end - 2, b'-');
+        text.extend(b"\r\n");
+    }
+}
+
+fn expect(what: &str, number: u64, place: u64, answer: &[u64]) -> Checked {
+    if answer[..2] == [number, place] {
+        return Ok(());
+    }
+    Err(Difference {
+        what: format!("{what}: {number} at {place} is expected, {answer:?} was given"),
+        input: "a size limit".to_string(),
+    })
+}

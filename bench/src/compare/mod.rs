@@ -1,0 +1,24 @@
+//! The library and the expert on the same inputs.
+
+mod both;
+pub mod inputs;
+pub mod limits;
+pub mod runs;
+mod tally;
+
+/// What differs, and on which input.
+pub struct Difference {
+    pub what: String,
+    pub input: String,
+}
+
+/// The most bytes of an input that are shown.
+const SHOWN: usize = 400;
+
+/// Bytes as text, not all of them if they are many.
+fn shown(bytes: &[u8]) -> String {
+    match bytes.get(..SHOWN) {
+        None => format!("b\"{}\"", bytes.escape_ascii()),
+        Some(first) => format!("b\"{}\"... ({} bytes)", first.escape_ascii(), bytes.len()),
+    }
+}

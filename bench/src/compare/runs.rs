@@ -1,0 +1,155 @@
+//! One input, with all that follows from it: other room for the output, and the way there and back.
+
+use super::both::Both;
+use super::tally::Tally;
+use super::{shown, Difference};
+use crate::inputs::random::Random;
+use crate::inputs::records::Fields;
+use bushingowl::{LEAST_ROW, MOST_HEADER, MOST_LINE, MOST_ROW, RECORD};
+
+pub struct Runs {
+    pub random: Random,
+    pub tally: Tally,
+    both: Both,
+}
+
+impl Runs {
+    pub fn new(seed: u64) -> Self {
+        Runs {
+            random: Random::new(seed),
+            tally: Tally::default(),
+            both: Both::new(!seed),
+        }
+    }
+
+    /// Reads a text. What must come of it may be known: the answer and the records.
+    pub fn read(
+        &mut self,
+        kind: &'static str,
+        text: &[u8],
+        known: Option<([u64; 6], &[u8])>,
+    ) -> Result<[u64; 6], Difference> {
+        let most = (text.len() / LEAST_ROW + 1) * RECORD;
+        let answer = self.both.read(text, most)?;
+        self.tally.count(kind, answer[0]);
+        let [number, _, version, start, rows, _] = answer;
+        let exact = rows as usize * RECORD;
+        let records = self.both.output(exact).to_vec();
+        if known.is_some_and(|(known, bytes)| known != answer || bytes != records) {
+            return Err(self.wrong("not what the text spells", text));
+        }
+        let room = self.other_room(exact);
+        let again = self.both.read(text, room)?;
+        self.tally.count("read into other room", again[0]);
+        if number == 0 {
+            self.there_and_back(version, start, &records, answer)?;
+        }
+        Ok(answer)
+    }
+
+    /// What was read must be written, and then read as the same. It can be exported, too.
+    fn there_and_back(
+        &mut self,
+        version: u64,
+        start: u64,
+        records: &[u8],
+        answer: [u64; 6],
+    ) -> Result<(), Difference> {
+        let most = MOST_HEADER + records.len() / RECORD * MOST_ROW;
+        let written = self.both.write(version as u32, start, records, most)?;
+        self.tally.count("written after reading", written[0]);
+        let text = self.both.output(written[2] as usize).to_vec();
+        let again = self.both.read(&text, records.len())?;
+        self.tally.count("read after writing", again[0]);
+        if again != answer || self.both.output(records.len()) != records {
+            return Err(self.wrong("what was written is not read as the same", &text));
+        }
+        let most = records.len() / RECORD * MOST_LINE;
+        let exported = self.both.export(start, records, most)?;
+        self.tally.count("exported after reading", exported[0]);
+        Ok(())
+    }
+
+    pub fn write(
+        &mut self,
+        kind: &'static str,
+        version: u32,
+        start: u64,
+        records: &[u8],
+    ) -> Result<[u64; 3], Difference> {
+        let most = MOST_HEADER + (records.len() / RECORD + 1) * MOST_ROW;
+        let answer = self.both.write(version, start, records, most)?;
+        self.tally.count(kind, answer[0]);
+        let exact = answer[2] as usize;
+        let text = self.both.output(exact).to_vec();
+        let room = self.other_room(exact);
+        let again = self.both.write(version, start, records, room)?;
+        self.tally.count("written into other room", again[0]);
+        if answer[0] == 0 {
+            let read = self.both.read(&text, records.len())?;
+            self.tally.count("read after writing", read[0]);
+            let same = read[..4] == [0, 0, u64::from(version), start];
+            if !same || self.both.output(records.len()) != records {
+                return Err(self.wrong("what was written is not read as the same", &text));
+            }
+        }
+        Ok(answer)
+    }
+
+    pub fn export(
+        &mut self,
+        kind: &'static str,
+        start: u64,
+        records: &[u8],
+    ) -> Result<[u64; 5], Difference> {
+        let most = (records.len() / RECORD + 1) * MOST_LINE;
+        let answer = self.both.export(start, records, most)?;
+        self.tally.count(kind, answer[0]);
+        let room = self.other_room(answer[2] as usize);
+        let again = self.both.export(start, records, room)?;
+        self.tally.count("exported into other room", again[0]);
+        Ok(answer)
+    }
+
+    pub fn unpack(&mut self, kind: &'static str, record: &[u8]) -> Result<(), Difference> {
+        let answer = self.both.unpack(record)?;
+        self.tally.count(kind, answer[0]);
+        if let [0, 0, fields @ ..] = answer {
+            let again = self.both.pack(&fields, RECORD)?;
+            self.tally.count("packed after unpacking", again[0]);
+            if again != [0, 0] || self.both.output(RECORD) != record {
+                return Err(self.wrong("what was unpacked is not packed as the same", record));
+            }
+        }
+        Ok(())
+    }
+
+    pub fn pack(&mut self, kind: &'static str, fields: &Fields) -> Result<(), Difference> {
+        let room = self.random.pick(&[RECORD, RECORD, RECORD, 0, 19, 21, 100]);
+        let answer = self.both.pack(fields, room)?;
+        self.tally.count(kind, answer[0]);
+        if answer[0] == 0 {
+            let record = self.both.output(RECORD).to_vec();
+            let again = self.both.unpack(&record)?;
+            self.tally.count("unpacked after packing", again[0]);
+            if again[2..] != *fields {
+                return Err(self.wrong("what was packed is not unpacked as the same", &record));
+            }
+        }
+        Ok(())
+    }
+
+    /// Room for an output of known length: just enough, one short, none, or more.
+    fn other_room(&mut self, exact: usize) -> usize {
+        let more = exact + self.random.between(1, 100);
+        self.random
+            .pick(&[exact, exact, exact.saturating_sub(1), 0, more])
+    }
+
+    fn wrong(&self, what: &str, input: &[u8]) -> Difference {
+        Difference {
+            what: format!("library and expert agree, but: {what}"),
+            input: shown(input),
+        }
+    }
+}

@@ -1,0 +1,86 @@
+//! Days, milliseconds and dates.
+
+use super::DAY;
+
+/// Days before each month, for common years and for leap years.
+static BEFORE: [[u64; 12]; 2] = [
+    [0, 31, 59, 90, 120, 151, 181, 212, 243, 273, 304, 334],
+    [0, 31, 60, 91, 121, 152, 182, 213, 244, 274, 305, 335],
+];
+/// From 1 January 1601 to 30 December 1899. The calendar repeats after 400 years, and 1601 begins such a period.
+const FIRST_DAY: u64 = 109_205;
+
+/// The milliseconds of a fraction of a day in ten digits, to nearest, halves up.
+pub fn milliseconds(fraction: u64) -> u64 {
+    // 86,400,000 over 10,000,000,000 is 864 over 100,000.
+    (fraction * 864 + 50_000) / 100_000
+}
+
+/// The fraction in ten digits of the milliseconds of a day, to nearest, halves up.
+pub fn fraction(milliseconds: u64) -> u64 {
+    (milliseconds * 10_000_000_000 + DAY / 2) / DAY
+}
+
+/// Day, month and year of a count of days since 30 December 1899.
+pub fn date(days: u64) -> (u64, u64, u64) {
+    let days = days + FIRST_DAY;
+    let (period, days) = (days / 146_097, days % 146_097);
+    // The last century of a period and the last year of four have a day more than the others.
+    let century = (days / 36_524).min(3);
+    let days = days - century * 36_524;
+    let (four, days) = (days / 1_461, days % 1_461);
+    let year = (days / 365).min(3);
+    let day = days - year * 365;
+    let leap = year == 3 && (four != 24 || century == 3);
+    let before = &BEFORE[usize::from(leap)];
+    let month = (day / 32) as usize;
+    let month = month + usize::from(month < 11 && before[(month + 1).min(11)] <= day);
+    let year = 1601 + period * 400 + century * 100 + four * 4 + year;
+    (day - before[month] + 1, month as u64 + 1, year)
+}
+
+#[cfg(test)]
+mod tests {
+    use super::*;
+
+    fn leap(year: u64) -> bool {
+        matches!((year % 4, year % 100, year % 400), (0, 1.., _) | (_, _, 0))
+    }
+
+    #[test]
+    fn every_date() {
+        let mut expected = (30, 12, 1899);
+        for days in 0..200_000 {
+            assert_eq!(date(days), expected);
+            let (day, month, year) = expected;
+            let last = match month {
+                2 => 28 + u64::from(leap(year)),
+                4 | 6 | 9 | 11 => 30,
+                _ => 31,
+            };
+            expected = match (day == last, month) {
+                (false, _) => (day + 1, month, year),
+                (true, 12) => (1, 1, year + 1),
+                (true, _) => (1, month + 1, year),
+            };
+        }
+    }
+
+    #[test]
+    fn of_the_paper() {
+        assert_eq!(date(36_585), (29, 2, 2000));
+        assert_eq!(date(25_569), (1, 1, 1970));
+        assert_eq!(milliseconds(6_772_258_947), 58_512_317);
+        assert_eq!(
+            37_704 * DAY + milliseconds(5_364_870_833),
+            3_257_671_952_484
+        );
+    }
+
+    #[test]
+    fn fractions_and_back() {
+        for ms in (0..DAY).step_by(997).chain([DAY - 1]) {
+            assert_eq!(milliseconds(fraction(ms)), ms);
+        }
+    }
+}

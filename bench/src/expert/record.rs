@@ -1,0 +1,161 @@
+//! The packed record.
+
+use super::RECORD;
+
+pub const LAST_OFFSET: u64 = 99_999_999_999_999;
+/// The kinds from 2 on: remote frames, then what is no frame.
+pub const REMOTE: u64 = 2;
+pub const WARNING: u64 = 4;
+pub const ERROR: u64 = 5;
+
+const STANDARD_IDS: u64 = 0x7FF;
+const EXTENDED_IDS: u64 = 0x1FFF_FFFF;
+/// The bit stream positions of an error frame, one bit each.
+const POSITIONS: u32 = 0x1F8E_FFFC;
+
+#[derive(Clone, Copy)]
+pub struct Fields {
+    pub offset: u64,
+    pub bus: u64,
+    pub kind: u64,
+    pub extended: u64,
+    pub id: u64,
+    pub length: u64,
+    /// The first data byte is the most significant.
+    pub data: u64,
+}
+
+impl Fields {
+    /// The fields as they stand in a record, judged or not.
+    #[inline(always)]
+    pub fn load(record: &[u8; RECORD]) -> Self {
+        let [head, middle, end] = words(record);
+        Fields {
+            offset: head >> 16,
+            bus: head >> 11 & 31,
+            kind: head >> 8 & 7,
+            extended: head >> 7 & 1,
+            id: (head & 0x7F) << 22 | middle >> 42,
+            length: middle >> 38 & 15,
+            data: middle << 26 | end >> 6,
+        }
+    }
+
+    /// The fields of a well formed record.
+    #[inline(always)]
+    pub fn judge(record: &[u8; RECORD]) -> Option<Self> {
+        let fields = Self::load(record);
+        (record[RECORD - 1] & 63 == 0 && fields.well_formed()).then_some(fields)
+    }
+
+    /// Packs well formed fields.
+    #[inline(always)]
+    pub fn store(&self, record: &mut [u8; RECORD]) {
+        let head = self.offset << 16
+            | self.bus << 11
+            | self.kind << 8
+            | self.extended << 7
+            | self.id >> 22;
+        let middle = self.id << 42 | self.length << 38 | self.data >> 26;
+        let end = (self.data << 6) as u32;
+        record[..8].copy_from_slice(&head.to_be_bytes());
+        record[8..16].copy_from_slice(&middle.to_be_bytes());
+        record[16..].copy_from_slice(&end.to_be_bytes());
+    }
+
+    /// Whether every field is within the rules; the fields may have any values.
+    #[inline(always)]
+    pub fn well_formed(&self) -> bool {
+        let shared = (self.offset <= LAST_OFFSET)
+            & (self.bus <= 16)
+            & (self.extended <= 1)
+            & (self.length <= 8)
+            & (self.data & past(self.length) == 0);
+        let ids = [STANDARD_IDS, EXTENDED_IDS][(self.extended & 1) as usize];
+        shared
+            && match self.kind {
+                0 | 1 => self.id <= ids,
+                2 | 3 => self.id <= ids && self.data == 0,
+                WARNING => self.extended == 0 && self.id == 0 && self.length == 4,
+                ERROR => self.extended == 0 && self.length == 4 && error(self.id, self.data),
+                _ => false,
+            }
+    }
+}
+
+#[inline(always)]
+fn words(record: &[u8; RECORD]) -> [u64; 3] {
+    let [a, b, c, d, e, f, g, h, i, j, k, l, m, n, o, p, q, r, s, t] = *record;
+    [
+        u64::from_be_bytes([a, b, c, d, e, f, g, h]),
+        u64::from_be_bytes([i, j, k, l, m, n, o, p]),
+        u64::from(u32::from_be_bytes([q, r, s, t])),
+    ]
+}
+
+/// The bits of the data bytes past a length.
+#[inline(always)]
+pub fn past(length: u64) -> u64 {
+    if length < 8 {
+        u64::MAX >> (8 * length)
+    } else {
+        0
+    }
+}
+
+/// Whether an error frame can have this ID and these data.
+pub fn error(id: u64, data: u64) -> bool {
+    let position = data >> 48 & 0xFF;
+    matches!(id, 1 | 2 | 4 | 8)
+        && data >> 57 == 0
+        && position < 32
+        && POSITIONS >> position & 1 == 1
+}
+
+pub fn unpack(record: &[u8]) -> [u64; 9] {
+    let Ok(record) = record.try_into() else {
+        return [20, 0, 0, 0, 0, 0, 0, 0, 0];
+    };
+    match Fields::judge(record) {
+        None => [23, 1, 0, 0, 0, 0, 0, 0, 0],
+        Some(f) => [
+            0, 0, f.offset, f.bus, f.kind, f.extended, f.id, f.length, f.data,
+        ],
+    }
+}
+
+pub fn pack(fields: &[u64; 7], out: &mut [u8]) -> [u64; 2] {
+    let [offset, bus, kind, extended, id, length, data] = *fields;
+    let fields = Fields {
+        offset,
+        bus,
+        kind,
+        extended,
+        id,
+        length,
+        data,
+    };
+    if !fields.well_formed() {
+        return [23, 1];
+    }
+    match out.first_chunk_mut() {
+        None => [25, 0],
+        Some(record) => {
+            fields.store(record);
+            [0, 0]
+        }
+    }
+}
+
+#[cfg(test)]
+mod tests {
+    use super::*;
+
+    #[test]
+    fn positions() {
+        for position in 0..256 {
+            let listed = matches!(position, 2..=15 | 17..=19 | 23..=28);
+            assert_eq!(error(1, position << 48), listed);
+        }
+    }
+}

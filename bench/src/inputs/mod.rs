@@ -1,0 +1,12 @@
+//! Inputs at random: records, texts that spell them, and damage to both.
+
+pub mod damage;
+pub mod noise;
+pub mod random;
+pub mod realistic;
+pub mod records;
+pub mod spelling;
+pub mod style;
+
+/// The latest start in milliseconds.
+pub const LAST_START: u64 = 8_639_999_999_999;

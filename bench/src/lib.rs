@@ -1,0 +1,6 @@
+//! The library against an independent implementation.
+
+pub mod compare;
+pub mod cpu_time;
+pub mod expert;
+pub mod inputs;

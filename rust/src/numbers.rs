@@ -1,0 +1,30 @@
+//! The same functions with the plain numbers of the C boundary, in the order of `include/bushingowl.h`.
+//!
+//! The first number is 0 or the refusal, the second its place. With a refusal the others are 0.
+
+use crate::boundary;
+
+/// Number, place, version, start, rows, first row that steps back.
+pub fn read(text: &[u8], out: &mut [u8]) -> [u64; 6] {
+    boundary::read(text, out)
+}
+
+/// Number, place, bytes.
+pub fn write(version: u32, start: u64, records: &[u8], out: &mut [u8]) -> [u64; 3] {
+    boundary::write(version, start, records, out)
+}
+
+/// Number, place, offset, bus, kind, extended, ID, length, data.
+pub fn unpack(record: &[u8]) -> [u64; 9] {
+    boundary::unpack(record)
+}
+
+/// Number, place. The fields are offset, bus, kind, extended, ID, length, data.
+pub fn pack(fields: &[u64; 7], out: &mut [u8]) -> [u64; 2] {
+    boundary::pack(fields, out)
+}
+
+/// Number, place, bytes, lines, records left out.
+pub fn export(start: u64, records: &[u8], out: &mut [u8]) -> [u64; 5] {
+    boundary::export(start, records, out)
+}
