@@ -1,6 +1,10 @@
 //! Days, milliseconds and dates.
 
+use super::tables::DECIMAL;
 use super::DAY;
+
+/// Stamps count in steps of 100 microseconds.
+const SECOND: u64 = 10_000;
 
 /// Days before each month, for common years and for leap years.
 static BEFORE: [[u64; 12]; 2] = [
@@ -22,7 +26,7 @@ pub fn fraction(milliseconds: u64) -> u64 {
 }
 
 /// Day, month and year of a count of days since 30 December 1899.
-pub fn date(days: u64) -> (u64, u64, u64) {
+fn date(days: u64) -> (u64, u64, u64) {
     let days = days + FIRST_DAY;
     let (period, days) = (days / 146_097, days % 146_097);
     // The last century of a period and the last year of four have a day more than the others.
@@ -33,10 +37,65 @@ pub fn date(days: u64) -> (u64, u64, u64) {
     let day = days - year * 365;
     let leap = year == 3 && (four != 24 || century == 3);
     let before = &BEFORE[usize::from(leap)];
-    let month = (day / 32) as usize;
-    let month = month + usize::from(month < 11 && before[(month + 1).min(11)] <= day);
+    let month = before.partition_point(|&before| before <= day);
     let year = 1601 + period * 400 + century * 100 + four * 4 + year;
-    (day - before[month] + 1, month as u64 + 1, year)
+    (day - before[month - 1] + 1, month as u64, year)
+}
+
+/// A stamp's text up to its point, kept for as long as the second lasts, and its date for as long as the day does.
+pub struct Clock {
+    text: [u8; 20],
+    /// The beginning of the second.
+    second: u64,
+    day: u64,
+}
+
+impl Clock {
+    pub fn new() -> Self {
+        Clock {
+            text: *b"00.00.0000 00:00:00.",
+            second: u64::MAX,
+            day: u64::MAX,
+        }
+    }
+
+    #[inline(always)]
+    pub fn text(&self) -> &[u8; 20] {
+        &self.text
+    }
+
+    /// Sets the text for a stamp, and gives the steps since the beginning of its second.
+    #[inline(always)]
+    pub fn set(&mut self, stamp: u64) -> u64 {
+        if stamp < self.second || stamp - self.second >= SECOND {
+            self.set_second(stamp / SECOND);
+        }
+        stamp - self.second
+    }
+
+    fn set_second(&mut self, seconds: u64) {
+        self.second = seconds * SECOND;
+        let (day, seconds) = (seconds / 86_400, seconds % 86_400);
+        if day != self.day {
+            self.set_day(day);
+        }
+        self.two(11, seconds / 3600);
+        self.two(14, seconds / 60 % 60);
+        self.two(17, seconds % 60);
+    }
+
+    fn set_day(&mut self, days: u64) {
+        self.day = days;
+        let (day, month, year) = date(days);
+        self.two(0, day);
+        self.two(3, month);
+        self.two(6, year / 100);
+        self.two(8, year % 100);
+    }
+
+    fn two(&mut self, at: usize, n: u64) {
+        self.text[at..at + 2].copy_from_slice(&DECIMAL[n as usize]);
+    }
 }
 
 #[cfg(test)]

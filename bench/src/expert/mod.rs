@@ -1,19 +1,19 @@
-//! An independent implementation of the library, written for speed from the paper alone.
+//! An independent implementation of the library, written from the paper alone: plain, safe and fast.
 //!
 //! The functions have the signatures and answers of `bushingowl::numbers`.
 
+#![forbid(unsafe_code)]
+
 mod clock;
 mod cursor;
-mod decimal;
 mod export;
-mod hex;
-mod number;
 mod pen;
 mod reader;
 mod record;
 mod row;
 mod tables;
-mod window;
+#[cfg(test)]
+mod tests;
 mod writer;
 
 pub use export::export;
@@ -33,6 +33,10 @@ const DAY: u64 = 86_400_000;
 /// Number and place.
 type Refusal = (u64, u64);
 
-fn whole_records(records: &[u8]) -> bool {
-    records.len().is_multiple_of(RECORD) && records.len() <= MOST_RECORDS
+/// The records of a list, or nothing if it is too long or the last is cut off.
+fn whole_records(records: &[u8]) -> Option<&[[u8; RECORD]]> {
+    match records.as_chunks() {
+        (whole, []) if records.len() <= MOST_RECORDS => Some(whole),
+        _ => None,
+    }
 }

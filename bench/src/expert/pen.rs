@@ -1,106 +1,63 @@
-//! Writing one line. A pen may write some bytes past where it stands; the next stroke covers them.
+//! Writing into an output that is just as long as all that is written.
 
-use super::decimal::digits;
 use super::tables::DECIMAL;
+use std::mem::take;
 
-/// The bytes that one line may touch: more than the longest line with what is written past its end.
-pub const ROOM: usize = 128;
+/// The number of decimal digits, 1 for 0.
+#[inline(always)]
+pub fn digits(n: u64) -> usize {
+    n.checked_ilog10().unwrap_or(0) as usize + 1
+}
 
 pub struct Pen<'a> {
-    room: &'a mut [u8; ROOM],
-    at: usize,
+    left: &'a mut [u8],
 }
 
 impl<'a> Pen<'a> {
-    pub fn new(room: &'a mut [u8; ROOM]) -> Self {
-        Pen { room, at: 0 }
+    pub fn new(left: &'a mut [u8]) -> Self {
+        Pen { left }
     }
 
-    /// The bytes written.
+    /// The next bytes of the output.
     #[inline(always)]
-    pub fn at(&self) -> usize {
-        self.at
+    fn next(&mut self, len: usize) -> &'a mut [u8] {
+        let (next, left) = take(&mut self.left).split_at_mut(len);
+        self.left = left;
+        next
     }
 
-    /// Writes all bytes of an array at some bytes past the pen, which stays.
     #[inline(always)]
-    fn ahead<const N: usize>(&mut self, past: usize, bytes: [u8; N]) {
-        let at = self.at + past;
-        debug_assert!(at + N <= ROOM);
-        // SAFETY: no line comes near the end of the room: the longest has 86 bytes, and 32 at most are written past it.
-        unsafe {
-            self.room
-                .as_mut_ptr()
-                .add(at)
-                .cast::<[u8; N]>()
-                .write_unaligned(bytes)
-        }
-    }
-
-    /// Writes an array, of which `len` bytes count.
-    #[inline(always)]
-    pub fn put<const N: usize>(&mut self, bytes: [u8; N], len: usize) {
-        self.ahead(0, bytes);
-        self.at += len;
+    pub fn put<const N: usize>(&mut self, bytes: [u8; N]) {
+        self.next(N).copy_from_slice(&bytes);
     }
 
     /// Writes two decimal digits.
     #[inline(always)]
     pub fn two(&mut self, n: u64) {
-        self.put(DECIMAL[n as usize].to_le_bytes(), 2);
+        self.put(DECIMAL[n as usize]);
     }
 
-    /// Writes a decimal number of at most 19 digits without leading zeros.
+    /// Writes a decimal number without leading zeros.
     #[inline(always)]
     pub fn decimal(&mut self, mut n: u64) {
-        let count = digits(n);
-        let mut left = count;
-        while left > 1 {
-            left -= 2;
-            self.ahead(left, DECIMAL[(n % 100) as usize].to_le_bytes());
+        let (first, pairs) = self.next(digits(n)).as_rchunks_mut();
+        for pair in pairs.iter_mut().rev() {
+            *pair = DECIMAL[(n % 100) as usize];
             n /= 100;
         }
-        if left == 1 {
-            self.ahead(0, [b'0' + n as u8]);
+        if let [digit] = first {
+            *digit = b'0' + n as u8;
         }
-        self.at += count;
     }
 
-    /// Writes the first `len` of the eight hexadecimal digits of a number.
+    /// Writes a length and so many data bytes, each after a blank.
     #[inline(always)]
-    pub fn hex(&mut self, n: u64, len: usize, table: &[u32; 256]) {
-        for (place, byte) in (n as u32).to_be_bytes().into_iter().enumerate() {
-            let pair = (table[usize::from(byte)] >> 8) as u16;
-            self.ahead(2 * place, pair.to_le_bytes());
+    pub fn data(&mut self, length: u64, data: u64, table: &[[u8; 2]; 256]) {
+        self.put([b'0' + length as u8]);
+        let places = self.next(3 * length as usize).as_chunks_mut().0;
+        for (place, byte) in places.iter_mut().zip(data.to_be_bytes()) {
+            let [high, low] = table[usize::from(byte)];
+            *place = [b' ', high, low];
         }
-        self.at += len;
     }
-
-    /// Writes a length and the data bytes, each after a blank.
-    #[inline(always)]
-    pub fn data(&mut self, length: u64, data: u64, table: &[u32; 256]) {
-        self.put([b'0' + length as u8], 1);
-        for (place, byte) in data.to_be_bytes().into_iter().enumerate() {
-            self.ahead(3 * place, table[usize::from(byte)].to_le_bytes());
-        }
-        self.at += 3 * length as usize;
-    }
-}
-
-/// Writes a line into an output that is just long enough for all lines. What a pen touches past its line, the next line
-/// covers; so the last lines, which have not that much room, are copied.
-#[inline(always)]
-pub fn line(out: &mut [u8], at: usize, put: impl Fn(&mut Pen)) -> usize {
-    let rest = &mut out[at..];
-    if let Some(room) = rest.first_chunk_mut() {
-        let mut pen = Pen::new(room);
-        put(&mut pen);
-        return at + pen.at();
-    }
-    let mut room = [0; ROOM];
-    let mut pen = Pen::new(&mut room);
-    put(&mut pen);
-    let len = pen.at();
-    rest[..len].copy_from_slice(&room[..len]);
-    at + len
 }

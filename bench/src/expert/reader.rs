@@ -1,16 +1,13 @@
 //! The reader: a first pass judges every line, a second fills the records.
 
 use super::clock::milliseconds;
-use super::cursor::LONGEST;
-use super::number::Number;
+use super::record::Fields;
 use super::row::row;
-use super::window::{Text, Window};
 use super::{Refusal, DAY, LAST_START, RECORD};
 
 const LONGEST_TEXT: usize = 134_217_728;
-
-/// A line without its end, and the text after it.
-type Line<'a> = (&'a [u8], &'a [u8]);
+/// The most bytes of a line without its end.
+const LONGEST: usize = 250;
 
 pub fn read(text: &[u8], out: &mut [u8]) -> [u64; 6] {
     match read_or_refuse(text, out) {
@@ -23,111 +20,86 @@ fn read_or_refuse(text: &[u8], out: &mut [u8]) -> Result<[u64; 4], Refusal> {
     if text.len() > LONGEST_TEXT {
         return Err((1, 0));
     }
-    let (first, rest) = line(text, 1)?.ok_or((4, 1))?;
-    let version = version(first).ok_or((4, 1))?;
-    let (second, rest) = line(rest, 2)?.ok_or((5, 2))?;
-    let start = start(second).ok_or((5, 2))?;
-    let (rows, step_back) = match version {
-        11 => rows::<false>(rest, out),
-        _ => rows::<true>(rest, out),
-    }?;
+    let (version, text) = header(text, (4, 1), version)?;
+    let (start, text) = header(text, (5, 2), start)?;
+    let (mut before, mut step_back) = (0, 0);
+    let rows = each_row(text, version, |number, fields| {
+        if fields.offset < before && step_back == 0 {
+            step_back = number;
+        }
+        before = fields.offset;
+    })?;
+    let out = out.get_mut(..rows as usize * RECORD).ok_or((8, 0))?;
+    let mut records = out.as_chunks_mut().0.iter_mut();
+    each_row(text, version, |_, fields| {
+        if let Some(record) = records.next() {
+            fields.store(record);
+        }
+    })?;
     Ok([version, start, rows, step_back])
 }
 
-/// Both passes over the lines from the third on. Gives the number of rows and the first that steps back.
-fn rows<const V12: bool>(rest: &[u8], out: &mut [u8]) -> Result<(u64, u64), Refusal> {
-    let text = Text::new(rest);
-    let rows = judge::<V12>(rest, &text)?;
-    let out = out.get_mut(..rows as usize * RECORD).ok_or((8, 0))?;
-    let step_back = fill::<V12>(&text, out).expect("a judged text has all its rows");
-    Ok((rows, step_back))
-}
-
-fn judge<const V12: bool>(rest: &[u8], text: &Text) -> Result<u64, Refusal> {
-    let (mut at, mut line, mut number) = (0, 3, Number::first());
-    while let Some(window) = text.window(at) {
-        if let Some((_, len)) = row::<V12, false>(window, &number) {
-            at += len;
-            number.step();
+/// One pass over the lines from the third on. Gives the number of rows.
+#[inline(always)]
+fn each_row(
+    mut text: &[u8],
+    version: u64,
+    mut take: impl FnMut(u64, &Fields),
+) -> Result<u64, Refusal> {
+    let (mut place, mut number) = (3, 1);
+    while let Some(&first) = text.first() {
+        if first == b';' {
+            text = comment(text, place)?;
         } else {
-            at += comment(window).ok_or_else(|| refusal(&rest[at..], line))?;
+            // A row that is too long has its line end past these bytes.
+            let bytes = &text[..text.len().min(LONGEST + 2)];
+            let (fields, len) =
+                row(bytes, number, version == 12).ok_or_else(|| no_row(text, place))?;
+            take(number, &fields);
+            number += 1;
+            text = &text[len..];
         }
-        line += 1;
+        place += 1;
     }
-    Ok(number.value() - 1)
+    Ok(number - 1)
 }
 
-/// Fills the records from a judged text, in which nothing is missing. Gives the first row that steps back.
-fn fill<const V12: bool>(text: &Text, out: &mut [u8]) -> Option<u64> {
-    let (mut at, mut number) = (0, Number::first());
-    let (mut before, mut step_back) = (0, 0);
-    for record in out.as_chunks_mut().0 {
-        let mut window = text.window(at)?;
-        while let Some(len) = comment(window) {
-            at += len;
-            window = text.window(at)?;
-        }
-        let (fields, len) = row::<V12, true>(window, &number)?;
-        fields.store(record);
-        if fields.offset < before && step_back == 0 {
-            step_back = number.value();
-        }
-        before = fields.offset;
-        number.step();
-        at += len;
+/// The text after a comment.
+fn comment(text: &[u8], place: u64) -> Result<&[u8], Refusal> {
+    let (line, rest) = line(text, place)?;
+    match line[1..].iter().find(|&&byte| byte != b' ') {
+        Some(b'$') => Err((6, place)),
+        _ => Ok(rest),
     }
-    Some(step_back)
 }
 
-/// The bytes of a comment with its line end, or nothing if this is no good one.
-fn comment(window: Window) -> Option<usize> {
-    if window.byte(0) != b';' {
-        return None;
-    }
-    let (mut at, mut first) = (1, b' ');
-    while !matches!(window.byte(at), b'\r' | b'\n') && at <= LONGEST {
-        if first == b' ' {
-            first = window.byte(at);
-        }
-        at += 1;
-    }
-    let ended = window.byte(at) == b'\r' && window.byte(at + 1) == b'\n';
-    (ended && at <= LONGEST && first != b'$').then_some(at + 2)
-}
-
-/// The refusal of a line that is no row and no good comment.
 #[cold]
-fn refusal(rest: &[u8], at: u64) -> Refusal {
-    match line(rest, at) {
-        Err(refusal) => refusal,
-        Ok(_) if rest[0] == b';' => (6, at),
-        Ok(_) => (7, at),
-    }
+fn no_row(text: &[u8], place: u64) -> Refusal {
+    line(text, place).err().unwrap_or((7, place))
 }
 
-/// The first line of a text, or nothing if no byte is left.
-fn line(text: &[u8], at: u64) -> Result<Option<Line<'_>>, Refusal> {
-    if text.is_empty() {
-        return Ok(None);
-    }
-    let end = text.iter().position(|b| matches!(b, b'\r' | b'\n'));
+/// The first line without its end, and the text after it.
+fn line(text: &[u8], place: u64) -> Result<(&[u8], &[u8]), Refusal> {
+    let end = text.iter().position(|byte| matches!(byte, b'\r' | b'\n'));
     let (line, rest) = text.split_at(end.unwrap_or(text.len()));
     match rest.strip_prefix(b"\r\n") {
-        None => Err((2, at)),
-        Some(_) if line.len() > LONGEST => Err((3, at)),
-        Some(rest) => Ok(Some((line, rest))),
+        None => Err((2, place)),
+        Some(_) if line.len() > LONGEST => Err((3, place)),
+        Some(rest) => Ok((line, rest)),
     }
 }
 
-/// What follows `;`, blanks and a name, without the blanks at the end.
-fn setting<'a>(line: &'a [u8], name: &[u8]) -> Option<&'a [u8]> {
-    let line = line.strip_prefix(b";")?;
-    let begin = line.iter().position(|&b| b != b' ')?;
-    let mut value = line[begin..].strip_prefix(name)?;
-    while let Some(shorter) = value.strip_suffix(b" ") {
-        value = shorter;
+/// The value of line 1 or 2, and the text after it. The refusal is given if the line is absent or spells no value.
+fn header(
+    text: &[u8],
+    refusal: Refusal,
+    value: fn(&[u8]) -> Option<u64>,
+) -> Result<(u64, &[u8]), Refusal> {
+    if text.is_empty() {
+        return Err(refusal);
     }
-    Some(value)
+    let (line, rest) = line(text, refusal.1)?;
+    Ok((value(line).ok_or(refusal)?, rest))
 }
 
 fn version(line: &[u8]) -> Option<u64> {
@@ -141,7 +113,7 @@ fn version(line: &[u8]) -> Option<u64> {
 /// The start in milliseconds.
 fn start(line: &[u8]) -> Option<u64> {
     let value = setting(line, b"$STARTTIME=")?;
-    let point = value.iter().position(|&b| b == b'.')?;
+    let point = value.iter().position(|&byte| byte == b'.')?;
     let (day, fraction) = (&value[..point], &value[point + 1..]);
     if day.len() > 5 || fraction.len() > 10 || (day.len() > 1 && day[0] == b'0') {
         return None;
@@ -151,12 +123,24 @@ fn start(line: &[u8]) -> Option<u64> {
     (start <= LAST_START).then_some(start)
 }
 
+/// What follows `;`, blanks and a name, without the blanks at the end.
+fn setting<'a>(line: &'a [u8], name: &[u8]) -> Option<&'a [u8]> {
+    let line = line.strip_prefix(b";")?;
+    let begin = line.iter().position(|&byte| byte != b' ')?;
+    let mut value = line[begin..].strip_prefix(name)?;
+    while let Some(shorter) = value.strip_suffix(b" ") {
+        value = shorter;
+    }
+    Some(value)
+}
+
 /// The value of one or more digits.
 fn decimal(digits: &[u8]) -> Option<u64> {
     if digits.is_empty() {
         return None;
     }
-    digits.iter().try_fold(0, |value, b| {
-        b.is_ascii_digit().then(|| value * 10 + u64::from(b - b'0'))
+    digits.iter().try_fold(0, |value, byte| {
+        byte.is_ascii_digit()
+            .then(|| value * 10 + u64::from(byte - b'0'))
     })
 }

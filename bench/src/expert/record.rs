@@ -2,18 +2,16 @@
 
 use super::RECORD;
 
-pub const LAST_OFFSET: u64 = 99_999_999_999_999;
-/// The kinds from 2 on: remote frames, then what is no frame.
+const LAST_OFFSET: u64 = 99_999_999_999_999;
+/// The kinds from 2 on: remote frames received and sent, then what is no frame.
 pub const REMOTE: u64 = 2;
 pub const WARNING: u64 = 4;
 pub const ERROR: u64 = 5;
 
-const STANDARD_IDS: u64 = 0x7FF;
-const EXTENDED_IDS: u64 = 0x1FFF_FFFF;
-/// The bit stream positions of an error frame, one bit each.
-const POSITIONS: u32 = 0x1F8E_FFFC;
+pub const STANDARD_IDS: u64 = 0x7FF;
+pub const EXTENDED_IDS: u64 = 0x1FFF_FFFF;
 
-#[derive(Clone, Copy)]
+#[derive(Default)]
 pub struct Fields {
     pub offset: u64,
     pub bus: u64,
@@ -65,7 +63,7 @@ impl Fields {
 
     /// Whether every field is within the rules; the fields may have any values.
     #[inline(always)]
-    pub fn well_formed(&self) -> bool {
+    fn well_formed(&self) -> bool {
         let shared = (self.offset <= LAST_OFFSET)
             & (self.bus <= 16)
             & (self.extended <= 1)
@@ -83,6 +81,7 @@ impl Fields {
     }
 }
 
+/// The record in three parts, each most significant byte first.
 #[inline(always)]
 fn words(record: &[u8; RECORD]) -> [u64; 3] {
     let [a, b, c, d, e, f, g, h, i, j, k, l, m, n, o, p, q, r, s, t] = *record;
@@ -95,7 +94,7 @@ fn words(record: &[u8; RECORD]) -> [u64; 3] {
 
 /// The bits of the data bytes past a length.
 #[inline(always)]
-pub fn past(length: u64) -> u64 {
+fn past(length: u64) -> u64 {
     if length < 8 {
         u64::MAX >> (8 * length)
     } else {
@@ -105,11 +104,8 @@ pub fn past(length: u64) -> u64 {
 
 /// Whether an error frame can have this ID and these data.
 pub fn error(id: u64, data: u64) -> bool {
-    let position = data >> 48 & 0xFF;
-    matches!(id, 1 | 2 | 4 | 8)
-        && data >> 57 == 0
-        && position < 32
-        && POSITIONS >> position & 1 == 1
+    let [direction, position, ..] = data.to_be_bytes();
+    matches!(id, 1 | 2 | 4 | 8) && direction <= 1 && matches!(position, 2..=15 | 17..=19 | 23..=28)
 }
 
 pub fn unpack(record: &[u8]) -> [u64; 9] {
@@ -143,19 +139,6 @@ pub fn pack(fields: &[u64; 7], out: &mut [u8]) -> [u64; 2] {
         Some(record) => {
             fields.store(record);
             [0, 0]
-        }
-    }
-}
-
-#[cfg(test)]
-mod tests {
-    use super::*;
-
-    #[test]
-    fn positions() {
-        for position in 0..256 {
-            let listed = matches!(position, 2..=15 | 17..=19 | 23..=28);
-            assert_eq!(error(1, position << 48), listed);
         }
     }
 }

@@ -1,139 +1,173 @@
-//! One row of a trace, read directly from the text.
-//!
-//! A row is read twice in the same way: first judged, then, once the whole text is judged, with no more tests.
+//! One row of a trace, read where it stands.
 
 use super::cursor::Cursor;
-use super::hex::{are_bytes, eight_bytes, four_digits};
-use super::number::Number;
-use super::record::{error, past, Fields, ERROR, REMOTE, WARNING};
-use super::window::Window;
+use super::record::{error, Fields, ERROR, EXTENDED_IDS, REMOTE, STANDARD_IDS, WARNING};
 
-/// Reads the row at the beginning of a window, and gives the bytes it has with its line end.
+/// Reads the row at the beginning of some bytes, and gives the bytes it has with its line end.
+/// The rows of version 1.2 are those with a bus.
 #[inline(always)]
-pub fn row<const V12: bool, const JUDGED: bool>(
-    window: Window,
-    number: &Number,
-) -> Option<(Fields, usize)> {
-    let mut cursor = Cursor::<JUDGED>::new(window);
+pub fn row(bytes: &[u8], number: u64, with_bus: bool) -> Option<(Fields, usize)> {
+    let mut cursor = Cursor::new(bytes);
     cursor.blanks();
-    cursor.must(number.begins(window.word(cursor.at)))?;
-    cursor.at += number.len();
-    cursor.blanks();
-    let offset = cursor.offset::<V12>()?;
+    if cursor.decimal(6)? != number {
+        return None;
+    }
+    cursor.text(b")")?;
     cursor.gap()?;
-    let bus = if V12 { cursor.bus()? } else { 0 };
-    let fields = match cursor.byte() {
+    let (offset, bus) = match with_bus {
+        true => (cursor.offset_of_three_digits()?, cursor.bus()?),
+        false => (cursor.offset_of_one_digit()?, 0),
+    };
+    cursor.gap()?;
+    let fields = match cursor.peek()? {
         b'W' => cursor.warning(),
         b'E' => cursor.error(),
         _ => cursor.frame(),
     }?;
-    let end = cursor.end()?;
+    cursor.blanks();
+    cursor.text(b"\r\n")?;
     Some((
         Fields {
             offset,
             bus,
             ..fields
         },
-        end,
+        cursor.at(),
     ))
 }
 
-impl<const JUDGED: bool> Cursor<'_, JUDGED> {
+impl Cursor<'_> {
+    /// The offset of version 1.1 in microseconds.
+    #[inline(always)]
+    fn offset_of_one_digit(&mut self) -> Option<u64> {
+        let whole = self.decimal(11)?;
+        self.text(b".")?;
+        Some(whole * 1000 + self.decimal_digits::<1>()? * 100)
+    }
+
+    /// The offset of version 1.2 in microseconds.
+    #[inline(always)]
+    fn offset_of_three_digits(&mut self) -> Option<u64> {
+        let whole = self.decimal(11)?;
+        self.text(b".")?;
+        Some(whole * 1000 + self.decimal_digits::<3>()?)
+    }
+
+    /// A gap and the bus.
+    #[inline(always)]
+    fn bus(&mut self) -> Option<u64> {
+        self.gap()?;
+        let bus = self.decimal(2)?;
+        (1..=16).contains(&bus).then_some(bus)
+    }
+
     /// A data or remote frame, from `Rx` or `Tx` on.
     #[inline(always)]
     fn frame(&mut self) -> Option<Fields> {
-        let first = self.byte();
-        let named = (first == b'R') | (first == b'T');
-        self.must(named && self.window.byte(self.at + 1) == b'x')?;
-        self.at += 2;
+        let sent = match self.take()? {
+            b"Rx" => 0,
+            b"Tx" => 1,
+            _ => return None,
+        };
         self.gap()?;
         let (extended, id) = self.id()?;
         self.gap()?;
-        let length = u64::from(self.byte().wrapping_sub(b'0'));
-        self.must(length <= 8)?;
-        self.at += 1;
-        let (remote, data) = self.data_or_remote(length)?;
+        let length = self.decimal_digits::<1>()?;
+        if length > 8 {
+            return None;
+        }
+        let (remote, data) = match self.remote() {
+            true => (REMOTE, 0),
+            false => (0, self.data(length)?),
+        };
         Some(Fields {
-            offset: 0,
-            bus: 0,
-            kind: u64::from(first == b'T') + remote,
+            kind: sent + remote,
             extended,
             id,
             length,
             data,
+            ..Fields::default()
         })
     }
 
-    /// The rest of a frame's fields: what is added to its kind, and the data.
+    /// Whether it is extended, and the ID: four digits up to 07FF or eight up to 1FFFFFFF.
     #[inline(always)]
-    fn data_or_remote(&mut self, length: u64) -> Option<(u64, u64)> {
-        let end = self.at + 3 * length as usize;
-        // In a judged row, so few bytes to the end that begin with a digit leave no room for more blanks.
-        let plain = self.window.byte(end) == b'\r'
-            && if JUDGED {
-                !matches!(self.window.byte(self.at + 1), b' ' | b'R')
-            } else {
-                are_bytes(self.window, self.at, length as usize)
-            };
-        if plain {
-            let data = eight_bytes(self.window, self.at) & !past(length);
-            self.at = end;
-            return Some((0, data));
+    fn id(&mut self) -> Option<(u64, u64)> {
+        let id = self.hex_digits::<4>()?;
+        if self.peek() == Some(b' ') {
+            return (id <= STANDARD_IDS).then_some((0, id));
         }
-        if self.remote() {
-            return Some((REMOTE, 0));
-        }
-        Some((0, self.data(length)?))
+        let id = id << 16 | self.hex_digits::<4>()?;
+        (id <= EXTENDED_IDS).then_some((1, id))
     }
 
-    /// Length 4 and the four bytes that a warning and an error frame have.
+    /// Whether `RTR` follows after a gap. If so, it is read.
+    #[inline(always)]
+    fn remote(&mut self) -> bool {
+        let mut ahead = self.clone();
+        let found = ahead.gap().is_some() && ahead.text(b"RTR").is_some();
+        if found {
+            *self = ahead;
+        }
+        found
+    }
+
+    /// So many bytes after a gap each, the first most significant.
+    #[inline(always)]
+    fn data(&mut self, length: u64) -> Option<u64> {
+        let mut data = 0;
+        for place in 1..=length {
+            self.gap()?;
+            data |= self.hex_digits::<2>()? << (64 - 8 * place);
+        }
+        Some(data)
+    }
+
+    /// A gap, length 4 and the four bytes of a warning or an error frame.
     fn four_bytes(&mut self) -> Option<u64> {
         self.gap()?;
-        self.must(self.byte() == b'4')?;
-        self.at += 1;
+        self.text(b"4")?;
         self.data(4)
     }
 
     #[cold]
     fn warning(&mut self) -> Option<Fields> {
-        let word = self.window.word(self.at) & 0xFF_FFFF_FFFF;
-        self.must(word == u64::from_le_bytes(*b"Warng\0\0\0"))?;
-        self.at += 5;
+        self.text(b"Warng")?;
         self.gap()?;
-        let high = four_digits(self.window, self.at);
-        let low = four_digits(self.window, self.at + 4);
-        self.must(high == 0xFFFF && low == 0xFFFF)?;
-        self.at += 8;
+        if self.hex_digits::<8>()? != 0xFFFF_FFFF {
+            return None;
+        }
         let data = self.four_bytes()?;
-        self.words()?;
+        self.words();
         Some(Fields {
-            offset: 0,
-            bus: 0,
             kind: WARNING,
-            extended: 0,
-            id: 0,
             length: 4,
             data,
+            ..Fields::default()
         })
+    }
+
+    /// Any words of capital letters, after a gap each.
+    fn words(&mut self) {
+        while self.gap().is_some() {
+            while self.peek().is_some_and(|byte| byte.is_ascii_uppercase()) {
+                self.take::<1>();
+            }
+        }
     }
 
     #[cold]
     fn error(&mut self) -> Option<Fields> {
-        let word = self.window.word(self.at) & 0xFF_FFFF_FFFF;
-        self.must(word == u64::from_le_bytes(*b"Error\0\0\0"))?;
-        self.at += 5;
+        self.text(b"Error")?;
         self.gap()?;
-        let (extended, id) = self.id()?;
+        let id = self.hex_digits::<4>()?;
         let data = self.four_bytes()?;
-        self.must(extended == 0 && error(id, data))?;
-        Some(Fields {
-            offset: 0,
-            bus: 0,
+        error(id, data).then_some(Fields {
             kind: ERROR,
-            extended: 0,
             id,
             length: 4,
             data,
+            ..Fields::default()
         })
     }
 }

@@ -1,27 +1,33 @@
-//! Tables from numbers to digits.
+//! Tables between numbers and digits.
 
-/// A blank and the two capital hexadecimal digits of a byte, first character lowest.
-pub static CAPITAL: [u32; 256] = blank_and_pair(b"0123456789ABCDEF");
-/// A blank and the two small hexadecimal digits of a byte, first character lowest.
-pub static SMALL: [u32; 256] = blank_and_pair(b"0123456789abcdef");
-/// The two decimal digits of a number below 100, first character lowest.
-pub static DECIMAL: [u16; 100] = decimal();
+/// Stands for a byte that is no hexadecimal digit.
+pub const NONE: u8 = 0xFF;
+/// The value of each byte as a hexadecimal digit of either case.
+pub static VALUE: [u8; 256] = value();
+/// The two capital hexadecimal digits of a byte.
+pub static CAPITAL: [[u8; 2]; 256] = pairs(b"0123456789ABCDEF");
+/// The two small hexadecimal digits of a byte.
+pub static SMALL: [[u8; 2]; 256] = pairs(b"0123456789abcdef");
+/// The two decimal digits of a number below 100.
+pub static DECIMAL: [[u8; 2]; 100] = pairs(b"0123456789");
 
-const fn blank_and_pair(digits: &[u8; 16]) -> [u32; 256] {
-    let mut table = [0; 256];
-    let mut byte = 0;
-    while byte < 256 {
-        table[byte] = u32::from_le_bytes([b' ', digits[byte / 16], digits[byte % 16], 0]);
-        byte += 1;
+const fn value() -> [u8; 256] {
+    let digits = b"0123456789ABCDEF0123456789abcdef";
+    let mut table = [NONE; 256];
+    let mut n = 0;
+    while n < digits.len() {
+        table[digits[n] as usize] = n as u8 % 16;
+        n += 1;
     }
     table
 }
 
-const fn decimal() -> [u16; 100] {
-    let mut table = [0; 100];
+/// All numbers of two digits.
+const fn pairs<const BASE: usize, const N: usize>(digits: &[u8; BASE]) -> [[u8; 2]; N] {
+    let mut table = [[0; 2]; N];
     let mut n = 0;
-    while n < 100 {
-        table[n] = u16::from_le_bytes([b'0' + (n / 10) as u8, b'0' + (n % 10) as u8]);
+    while n < N {
+        table[n] = [digits[n / BASE], digits[n % BASE]];
         n += 1;
     }
     table

@@ -1,12 +1,10 @@
 //! The writer: a first pass judges and measures all records, a second writes them.
 
 use super::clock::fraction;
-use super::decimal::{digits, digits_up_to};
-use super::number::Number;
-use super::pen::{line, Pen};
-use super::record::{Fields, ERROR, REMOTE, WARNING};
+use super::pen::{digits, Pen};
+use super::record::{Fields, ERROR, WARNING};
 use super::tables::CAPITAL;
-use super::{whole_records, Refusal, DAY, LAST_START};
+use super::{whole_records, Refusal, DAY, LAST_START, RECORD};
 
 pub fn write(version: u32, start: u64, records: &[u8], out: &mut [u8]) -> [u64; 3] {
     match write_or_refuse(version, start, records, out) {
@@ -21,147 +19,119 @@ fn write_or_refuse(
     records: &[u8],
     out: &mut [u8],
 ) -> Result<usize, Refusal> {
-    if !whole_records(records) {
-        return Err((20, 0));
-    }
+    let records = whole_records(records).ok_or((20, 0))?;
     if version != 11 && version != 12 {
         return Err((21, 0));
     }
     if start > LAST_START {
         return Err((22, 0));
     }
-    match version {
-        11 => write_all::<false>(start, records, out),
-        _ => write_all::<true>(start, records, out),
-    }
-}
-
-fn write_all<const V12: bool>(
-    start: u64,
-    records: &[u8],
-    out: &mut [u8],
-) -> Result<usize, Refusal> {
-    let header = header::<V12>(start);
-    let total = header.len() + measure::<V12>(records)?;
-    let out = out.get_mut(..total).ok_or((25, 0))?;
-    out[..header.len()].copy_from_slice(header.as_bytes());
-    let (mut at, mut number) = (header.len(), Number::first());
-    for record in records.as_chunks().0 {
-        let fields = Fields::load(record);
-        at = line(out, at, |pen| put_row::<V12>(pen, &number, &fields));
-        number.step();
+    let with_bus = version == 12;
+    let total = header_length(start) + measure(records, with_bus)?;
+    let mut pen = Pen::new(out.get_mut(..total).ok_or((25, 0))?);
+    put_header(&mut pen, start, with_bus);
+    for (number, record) in (1..).zip(records) {
+        put_row(&mut pen, number, &Fields::load(record), with_bus);
     }
     Ok(total)
 }
 
-fn header<const V12: bool>(start: u64) -> String {
-    let (day, fraction) = (start / DAY, fraction(start % DAY));
-    let version = if V12 { "1.2" } else { "1.1" };
-    format!(";$FILEVERSION={version}\r\n;$STARTTIME={day}.{fraction:010}\r\n")
-}
-
 /// The bytes of all rows.
-fn measure<const V12: bool>(records: &[u8]) -> Result<usize, Refusal> {
-    let (mut sum, mut place, mut uncarried) = (0, 0, 0);
-    for record in records.as_chunks().0 {
-        place += 1;
-        let fields = Fields::judge(record).ok_or((23, place))?;
-        if !carried::<V12>(&fields) && uncarried == 0 {
-            uncarried = place;
+fn measure(records: &[[u8; RECORD]], with_bus: bool) -> Result<usize, Refusal> {
+    let (mut sum, mut uncarried) = (0, 0);
+    for (number, record) in (1..).zip(records) {
+        let fields = Fields::judge(record).ok_or((23, number))?;
+        if uncarried == 0 && !carried(&fields, with_bus) {
+            uncarried = number;
         }
-        sum += row_length::<V12>(&fields);
+        sum += row_length(number, &fields, with_bus);
     }
-    if uncarried != 0 {
-        return Err((24, uncarried));
-    }
-    Ok(sum + digits_up_to(place))
-}
-
-#[inline(always)]
-fn carried<const V12: bool>(fields: &Fields) -> bool {
-    if V12 {
-        fields.bus != 0
-    } else {
-        fields.bus == 0 && fields.offset.is_multiple_of(100)
+    match uncarried {
+        0 => Ok(sum),
+        _ => Err((24, uncarried)),
     }
 }
 
-/// The bytes of a row but for the digits of its number.
 #[inline(always)]
-fn row_length<const V12: bool>(fields: &Fields) -> usize {
-    let around = ") . ".len() + if V12 { 3 } else { 1 };
-    let bus = if V12 {
-        2 + usize::from(fields.bus > 9)
-    } else {
-        0
+fn carried(fields: &Fields, with_bus: bool) -> bool {
+    match with_bus {
+        true => fields.bus != 0,
+        false => fields.bus == 0 && fields.offset.is_multiple_of(100),
+    }
+}
+
+#[inline(always)]
+fn row_length(number: u64, fields: &Fields, with_bus: bool) -> usize {
+    let version = match with_bus {
+        true => ") .000  ".len() + digits(fields.bus),
+        false => ") .0 ".len(),
     };
-    let length = fields.length as usize;
-    let rest = match fields.kind {
-        WARNING => "Warng FFFFFFFF 4".len() + 3 * length,
-        ERROR => "Error 0001 4".len() + 3 * length,
-        kind => {
-            let data = if kind < REMOTE { 3 * length } else { 4 };
-            "Rx 0123 2".len() + 4 * fields.extended as usize + data
-        }
+    let data = 3 * fields.length as usize;
+    let kind = match fields.kind {
+        WARNING => "Warng FFFFFFFF 4\r\n".len() + data,
+        ERROR => "Error 0001 4\r\n".len() + data,
+        2 | 3 => "Rx 0123 2 RTR\r\n".len(),
+        _ => "Rx 0123 2\r\n".len() + data,
     };
-    digits(fields.offset / 1000) + around + bus + rest + "\r\n".len()
+    digits(number) + digits(fields.offset / 1000) + version + kind + 4 * fields.extended as usize
 }
 
 #[inline(always)]
-fn put_row<const V12: bool>(pen: &mut Pen, number: &Number, fields: &Fields) {
-    pen.put(number.word().to_le_bytes(), number.len());
+fn put_row(pen: &mut Pen, number: u64, fields: &Fields, with_bus: bool) {
+    pen.decimal(number);
+    pen.put(*b") ");
     pen.decimal(fields.offset / 1000);
-    put_fraction::<V12>(pen, fields.offset % 1000);
-    if V12 {
-        put_bus(pen, fields.bus);
+    let part = fields.offset % 1000;
+    pen.put([b'.', b'0' + (part / 100) as u8]);
+    if with_bus {
+        pen.two(part % 100);
+        pen.put(*b" ");
+        pen.decimal(fields.bus);
     }
     match fields.kind {
-        WARNING => pen.put(*b"Warng FFFFFFFF ", 15),
+        WARNING => pen.put(*b" Warng FFFFFFFF "),
         ERROR => {
-            pen.put(*b"Error 000", 9);
-            pen.put([b'0' + fields.id as u8, b' '], 2);
+            pen.put(*b" Error 000");
+            pen.put([b'0' + fields.id as u8, b' ']);
         }
         kind => {
-            pen.put([*b"Rx ", *b"Tx "][(kind & 1) as usize], 3);
+            let first = if kind & 1 == 0 { b'R' } else { b'T' };
+            pen.put([b' ', first, b'x', b' ']);
             put_id(pen, fields);
         }
     }
-    if (REMOTE..WARNING).contains(&fields.kind) {
-        pen.put([b'0' + fields.length as u8, b' ', b'R', b'T', b'R'], 5);
-    } else {
-        pen.data(fields.length, fields.data, &CAPITAL);
+    match fields.kind {
+        2 | 3 => pen.put([b'0' + fields.length as u8, b' ', b'R', b'T', b'R']),
+        _ => pen.data(fields.length, fields.data, &CAPITAL),
     }
-    pen.put(*b"\r\n", 2);
-}
-
-/// A point, one or three digits of the microseconds, and a blank.
-#[inline(always)]
-fn put_fraction<const V12: bool>(pen: &mut Pen, microseconds: u64) {
-    pen.put([b'.', b'0' + (microseconds / 100) as u8, b' '], 2);
-    if V12 {
-        pen.two(microseconds % 100);
-    }
-    pen.put(*b" ", 1);
-}
-
-#[inline(always)]
-fn put_bus(pen: &mut Pen, bus: u64) {
-    let unit = b'0' + (bus % 10) as u8;
-    if bus > 9 {
-        pen.put([b'1', unit, b' '], 3);
-    } else {
-        pen.put([unit, b' '], 2);
-    }
+    pen.put(*b"\r\n");
 }
 
 /// Four or eight digits and a blank.
 #[inline(always)]
 fn put_id(pen: &mut Pen, fields: &Fields) {
-    let standard = 1 - fields.extended;
-    pen.hex(
-        fields.id << (16 * standard),
-        8 - 4 * standard as usize,
-        &CAPITAL,
-    );
-    pen.put(*b" ", 1);
+    let bytes = (fields.id as u32).to_be_bytes();
+    let [a, b, c, d] = bytes.map(|byte| CAPITAL[usize::from(byte)]);
+    if fields.extended == 1 {
+        pen.put([a[0], a[1], b[0], b[1]]);
+    }
+    pen.put([c[0], c[1], d[0], d[1], b' ']);
+}
+
+fn header_length(start: u64) -> usize {
+    ";$FILEVERSION=1.1\r\n;$STARTTIME=.0123456789\r\n".len() + digits(start / DAY)
+}
+
+fn put_header(pen: &mut Pen, start: u64, with_bus: bool) {
+    pen.put(match with_bus {
+        true => *b";$FILEVERSION=1.2\r\n;$STARTTIME=",
+        false => *b";$FILEVERSION=1.1\r\n;$STARTTIME=",
+    });
+    pen.decimal(start / DAY);
+    pen.put(*b".");
+    let fraction = fraction(start % DAY);
+    for power in [100_000_000, 1_000_000, 10_000, 100, 1] {
+        pen.two(fraction / power % 100);
+    }
+    pen.put(*b"\r\n");
 }
