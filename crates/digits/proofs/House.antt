@@ -4,7 +4,7 @@ use mathlib.Core.Path.{_≡_, refl, ap, sym, _∙_}
 use mathlib.Core.Logic.{_≢_, _⊎_, inl, inr, ⊎-elim}
 use mathlib.Core.Bool.{true, false}
 use mathlib.Core.List.{List, [], _∷_, _++_}
-use native.Mathlib.Nat.{pow-zero, pow-suc, div-add-mod', div-lt-iff-lt-mul, mod-lt, mul-le-mul-right, pow-le-pow-right}
+use native.Mathlib.Nat.{add-zero, mul-comm, div-one, div-div-eq-div-mul, pow-zero, pow-suc, pow-succ', one-le-pow, div-add-mod', div-lt-iff-lt-mul, mod-lt, mul-le-mul-right, pow-le-pow-right}
 use native.Mathlib.Decide.{ℕ-discrete}
 use native.Mathlib.Numerals.{add-one}
 use native.Mathlib.Omega.{arith}
@@ -103,6 +103,23 @@ length-one n h = rw one
 
 pub length-step : (n : ℕ) → 10 ≤ n → length (decimalText n) ≡ length (decimalText (n / 10)) + 1
 length-step n h = rw step (length-append (decimalText (n / 10)) _)
+
+-- 10 ^ j or more has j digits more than the quotient
+pub length-steps : (j n : ℕ) → 10 ^ j ≤ n → length (decimalText n) ≡ length (decimalText (n / 10 ^ j)) + j
+length-steps zero n h = rw (pow-zero, div-one, add-zero)
+length-steps (suc j) n h =
+    let e : n / 10 / 10 ^ j ≡ n / 10 ^ suc j = rw (div-div-eq-div-mul, mul-comm, ← pow-suc) in
+    let p = pow-suc 10 j in
+    let z : 1 ≤ 10 ^ j = one-le-pow j 10 (omega arith) in
+    let l = rw e at (length-steps j (n / 10) (omega arith)) in
+    omega (arith, length-step n (omega arith))
+
+-- a number from 10 ^ j on and below 10 ^ (j + 1) has j + 1 digits
+pub length-told : (j n : ℕ) → 10 ^ j ≤ n → n < 10 ^ suc j → length (decimalText n) ≡ j + 1
+length-told j n h k =
+    let z : 0 < 10 ^ j = one-le-pow j 10 (omega arith) in
+    let p : n / 10 ^ j < 10 = div-lt-iff-lt-mul z .1 (rw pow-succ' at k) in
+    omega (arith, length-steps j n h, length-one (n / 10 ^ j) p)
 
 -- a number below 10 ^ w has at most w digits
 pub few : (w n : ℕ) → n < 10 ^ suc w → length (decimalText n) ≤ suc w

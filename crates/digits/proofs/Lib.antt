@@ -1,3 +1,4 @@
+pub mod ByteDigits
 pub mod House
 pub mod Marks
 pub mod Readers

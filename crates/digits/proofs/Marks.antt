@@ -7,8 +7,8 @@ use native.Mathlib.Omega.{arith}
 use lib.Dec.{T, eqb, eqb→eq}
 use Rattle.base.proofs.Numbers.{below-or-not}
 use Rattle.base.proofs.Tables.{both, both-left, both-right}
-use Rattle.digits.specs.Digits.{HexDigit, capital, small, figure, letter}
-use Rattle.digits.proofs.Strings.{outside}
+use Rattle.digits.specs.Digits.{HexDigit, IsHex, capital, small, figure, letter}
+use Rattle.digits.proofs.Strings.{cases}
 
 -- the n bits of a word from bit i on are all v
 abbrev pub run : ℕ → ℕ → ℕ → ℕ → Bool
@@ -32,24 +32,25 @@ pub record HexMarks (word : ℕ) : Type 0 where
 
 module _ (word : ℕ) (s : HexMarks word) where
   -- a byte whose bit is 0 is no digit
-  pub unmarked : {x d : ℕ} → 48 ≤ x → word / 2 ^ (x - 48) % 2 ≡ 0 → HexDigit x d → ⊥
-  unmarked {x} h e =
-      outside (λ l u. omega (arith, bit word 1 0 10 (s .figures) (x - 48) (omega arith) (omega arith)))
-      (λ l u. omega (arith, bit word 1 17 6 (s .capitals) (x - 48) (omega arith) (omega arith)))
-      (λ l u. omega (arith, bit word 1 49 6 (s .smalls) (x - 48) (omega arith) (omega arith)))
+  pub unmarked : {x : ℕ} → word / 2 ^ (x - 48) % 2 ≡ 0 → IsHex x → ⊥
+  unmarked {x} e (d, q) =
+      let one : word / 2 ^ (x - 48) % 2 ≡ 1 =
+      cases (λ p. bit word 1 0 10 (s .figures) (x - 48) (omega arith) (omega arith))
+      (λ p. bit word 1 17 6 (s .capitals) (x - 48) (omega arith) (omega arith))
+      (λ p. bit word 1 49 6 (s .smalls) (x - 48) (omega arith) (omega arith)) q in
+      omega arith
 
-  -- a byte whose bit is not 0 is the digit d, if d is right in each of the three ranges
-  pub marked : {x d : ℕ} → 48 ≤ x → x ≤ 102 → (word / 2 ^ (x - 48) % 2 ≡ 0 → ⊥)
-      → (x ≤ 57 → x ≡ 48 + d) → (65 ≤ x → x ≤ 70 → x + 10 ≡ 65 + d) → (97 ≤ x → x + 10 ≡ 97 + d) → HexDigit x d
-  marked {x} {d} l u m f g h =
-      split 58 (λ q. let e = f (omega arith) in capital (figure (record { value = omega arith; byte = e })))
+  -- a byte in the word's range whose bit is not 0 is one
+  pub marked : {x : ℕ} → 48 ≤ x → x ≤ 102 → (word / 2 ^ (x - 48) % 2 ≡ 0 → ⊥) → IsHex x
+  marked {x} l u m =
+      split 58 (λ q. (x - 48, capital (figure (record { value = omega arith; byte = omega arith }))))
       (λ p. split 65 (λ q. unset 10 7 (s .before-capitals) (omega arith) (omega arith))
-      (λ p. split 71 (λ q. let e = g p (omega arith) in capital (letter (record { low = omega arith; high = omega arith; byte = e })))
+      (λ p. split 71 (λ q. (x - 55, capital (letter (record { low = omega arith; high = omega arith; byte = omega arith }))))
       (λ p. split 97 (λ q. unset 23 26 (s .before-smalls) (omega arith) (omega arith))
-      (λ p. let e = h p in small (letter (record { low = omega arith; high = omega arith; byte = e }))))))
+      (λ p. (x - 87, small (letter (record { low = omega arith; high = omega arith; byte = omega arith })))))))
     where
-      split : (n : ℕ) → (x < n → HexDigit x d) → (n ≤ x → HexDigit x d) → HexDigit x d
+      split : (n : ℕ) → (x < n → IsHex x) → (n ≤ x → IsHex x) → IsHex x
       split n p q = ⊎-elim p q (below-or-not x n)
 
-      unset : (i n : ℕ) → T (run word 0 i n) → i ≤ x - 48 → x - 48 < i + n → HexDigit x d
+      unset : (i n : ℕ) → T (run word 0 i n) → i ≤ x - 48 → x - 48 < i + n → IsHex x
       unset i n t p q = absurd (m (bit word 0 i n t (x - 48) p q))

@@ -9,7 +9,7 @@ use native.Mathlib.Omega.{arith}
 use lib.Arith.{digits-lt}
 use lib.ListN.{length, getD, length-append}
 use Rattle.base.proofs.Numbers.{parts}
-use Rattle.digits.specs.Digits.{DecimalDigit, CasedDigit, figure, letter, HexDigit, capital, small, Digits, none, more}
+use Rattle.digits.specs.Digits.{DecimalDigit, LetterDigit, CasedDigit, figure, letter, HexDigit, capital, small, Digits, none, more}
 
 -- What the laws ask of a base's digits: each is below the base, and a byte is one digit at the most.
 pub record System (D : ℕ → ℕ → Type 0) (b : ℕ) : Type 0 where
@@ -103,9 +103,9 @@ hex-small (small p) = cased-small p
 pub hex : System HexDigit 16
 hex = record { small = hex-small; one = hex-one }
 
--- a byte outside the three ranges is no hexadecimal digit
-pub outside : {x d : ℕ} → (48 ≤ x → x ≤ 57 → ⊥) → (65 ≤ x → x ≤ 70 → ⊥) → (97 ≤ x → x ≤ 102 → ⊥) → HexDigit x d → ⊥
-outside f g h (capital (figure p)) = f (omega arith) (omega arith)
-outside f g h (capital (letter p)) = g (omega arith) (omega arith)
-outside f g h (small (figure p)) = f (omega arith) (omega arith)
-outside f g h (small (letter p)) = h (omega arith) (omega arith)
+-- what follows from a figure, a capital letter and a small letter follows from every hexadecimal digit
+pub cases : {C : Type 0} {x d : ℕ} → (DecimalDigit x d → C) → (LetterDigit 65 x d → C) → (LetterDigit 97 x d → C) → HexDigit x d → C
+cases f g h (capital (figure p)) = f p
+cases f g h (capital (letter p)) = g p
+cases f g h (small (figure p)) = f p
+cases f g h (small (letter p)) = h p

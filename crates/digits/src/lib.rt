@@ -3,9 +3,11 @@ use base::wide;
 ghost use mathlib.Core.Path.{_≡_};
 ghost use Prim.Native.Nat.{_+_, _≤_, _<_};
 ghost use lib.ListN.{length};
+ghost use Rattle.base.specs.Decides.{Decides};
 ghost use Rattle.base.specs.Wrote.{Wrote};
 ghost use Rattle.digits.specs.Answer.{Answers, DigitOr255, ReadDecimal, ReadPadded, ReadHex};
-ghost use Rattle.digits.specs.House.{glyphOf, paddedText, hexText, decimalText};
+ghost use Rattle.digits.specs.Digits.{HexDigit, IsHex};
+ghost use Rattle.digits.specs.House.{glyphOf, PairsOf, paddedText, hexText, decimalText};
 
 pub enum Number {
     Value(u64),
@@ -21,22 +23,40 @@ pub enum Letters {
 // One bit for each byte from `0` to `f`, the lowest for `0`: 1 for a hexadecimal digit.
 const HEX_DIGITS: u64 = 0x7E_0000_007E_03FF;
 
-// The hexadecimal digit that a byte is, or 255. No branch tells figures from letters: a text mixes the two, and a branch that
-// cannot be predicted is slow.
+// Whether a byte is a hexadecimal digit of either letter case. No branch tells figures from letters: a text mixes the two, and a branch
+// that cannot be predicted is slow.
+pub fn is_hex(b: u8) -> bool
+    ensures { λ r. ⌜ Decides (IsHex b) r ⌝ }
+{
+    if b < 48 {
+        return false;
+    }
+    if 102 < b {
+        return false;
+    }
+    if (HEX_DIGITS >> (b - 48) as u64) % 2 == 0 {
+        return false;
+    }
+    true
+}
+
+// The hexadecimal digit that a byte is. Its low four bits are a figure's digit, or a letter's digit less 9; only letters are 64 or more.
+pub fn hex_value(b: u8) -> u64
+    requires { ⌜ IsHex b ⌝ }
+    ensures { λ v. ⌜ HexDigit b v ⌝ }
+{
+    let n = wide(b);
+    n % 16 + 9 * (n / 64)
+}
+
+// The hexadecimal digit that a byte is, or 255.
 pub fn hex_digit(b: u8) -> u8
     ensures { λ r. ⌜ DigitOr255 b r ⌝ }
 {
-    if b < 48 {
+    if !is_hex(b) {
         return 255;
     }
-    if 102 < b {
-        return 255;
-    }
-    if (HEX_DIGITS >> (b - 48) as u64) % 2 == 0 {
-        return 255;
-    }
-    // the low four bits are a figure's digit, or a letter's digit less 9; only letters are 64 or more
-    b % 16 + 9 * (b / 64)
+    hex_value(b) as u8
 }
 
 // The number that decimal digits spell, zeros kept.
@@ -97,14 +117,41 @@ pub fn read_hex(s: &[u8]) -> Number
     Number::Value(n)
 }
 
-// How many digits n has in decimal.
+// How many digits n has in decimal. It is told by comparisons: a division for each digit takes longer.
 pub fn decimal_length(n: u64) -> usize
     ensures { λ r. ⌜ r ≡ length (decimalText n) ⌝ }
 {
     if n < 10 {
         return 1;
     }
-    decimal_length(n / 10) + 1
+    if n < 100 {
+        return 2;
+    }
+    if n < 1000 {
+        return 3;
+    }
+    if n < 10000 {
+        return 4;
+    }
+    if n < 100000 {
+        return 5;
+    }
+    if n < 1000000 {
+        return 6;
+    }
+    if n < 10000000 {
+        return 7;
+    }
+    if n < 100000000 {
+        return 8;
+    }
+    if n < 1000000000 {
+        return 9;
+    }
+    if n < 10000000000 {
+        return 10;
+    }
+    decimal_length(n / 10000000000) + 10
 }
 
 // Puts n in decimal at a position, and gives the position after it. The writer calls itself on n over ten, then puts the last digit.
@@ -150,6 +197,27 @@ pub fn glyph(letters: Letters, d: u8) -> u8
         Letters::Capital => 65 + (d - 10),
         Letters::Small => 97 + (d - 10),
     }
+}
+
+// Room for two digits of each byte.
+fn no_pairs() -> [u8; 512]
+    ensures { λ t. ⌜ 512 ≡ length t ⌝ }
+{
+    [0; 512]
+}
+
+// The two digits of each byte, one pair behind the other.
+pub fn pairs(letters: Letters) -> [u8; 512]
+    ensures { λ t. ⌜ PairsOf letters t ⌝ }
+{
+    let mut t = no_pairs();
+    let mut i: usize = 0;
+    while i < 256 {
+        t[2 * i] = glyph(letters, (i / 16) as u8);
+        t[2 * i + 1] = glyph(letters, (i % 16) as u8);
+        i += 1;
+    }
+    t
 }
 
 // Puts the last w hexadecimal digits of n at a position, zeros kept, and gives the position after them, from the last digit as `put_padded` does.

@@ -159,11 +159,16 @@ mark-one p q e =
     let h = sym (mark-value p) ∙ ap markValue e ∙ mark-value q in
     (mark-text p ∙ ap markText h ∙ sym (mark-text q), h)
 
-pub no-mark : {b v : ℕ} {f : List ℕ} → b ≢ 82 → b ≢ 84 → b ≢ 87 → b ≢ 69 → b ≡ head f → MarkField v f → ⊥
-no-mark i j k l e (rx p) = i (e ∙ ap head p)
-no-mark i j k l e (tx p) = j (e ∙ ap head p)
-no-mark i j k l e (warng p) = k (e ∙ ap head p)
-no-mark i j k l e (error p) = l (e ∙ ap head p)
+pub no-mark : {b v : ℕ} {f : List ℕ} → ((b ≡ 82) ⊎ (b ≡ 84) → ⊥) → b ≢ 87 → b ≢ 69 → b ≡ head f → MarkField v f → ⊥
+no-mark i k l e (rx p) = i (inl (e ∙ ap head p))
+no-mark i k l e (tx p) = i (inr (e ∙ ap head p))
+no-mark i k l e (warng p) = k (e ∙ ap head p)
+no-mark i k l e (error p) = l (e ∙ ap head p)
+
+-- The two marks that go on with `x` are told by one number.
+pub short : {b v : ℕ} → (b ≡ 82 → v ≡ 0) → (b ≡ 84 → v ≡ 1) → (b ≡ 82) ⊎ (b ≡ 84) → MarkField v (b ∷ 120 ∷ [])
+short f g (inl e) = rw (f e) (rx (ap (λ (x : ℕ). x ∷ 120 ∷ []) e))
+short f g (inr e) = rw (g e) (tx (ap (λ (x : ℕ). x ∷ 120 ∷ []) e))
 
 -- The reader of the one mark that starts with this byte reads marks.
 pub mark-takes : {w u : List ℕ} {at k : ℕ} {s : Scan} → Starts w at → MarkField k (getD w at 0 ∷ u)

@@ -8,7 +8,7 @@ use lib.ListN.{length, drop}
 use lib.Seq.{slice, drop-cons, length-slice}
 use Rattle.digits.specs.Digits.{DecimalDigit, HexDigit, Digits}
 use Rattle.digits.specs.Digits.{none as no-digits, more as digits-more}
-use Rattle.digits.proofs.Strings.{outside}
+use Rattle.digits.proofs.Strings.{cases}
 use Rattle.fields.specs.declared.Scan.{Scan}
 use Rattle.fields.specs.Runs.{All, empty, more, Stops, halt}
 use Rattle.fields.specs.Window.{Solid, Scanned}
@@ -27,7 +27,7 @@ pub decimal-solid : (x : ℕ) → Some DecimalDigit x → Solid x
 decimal-solid x (d, p) = record { blank = λ e. omega (arith, p .byte, p .value); end = λ e. omega (arith, p .byte, p .value) }
 
 pub hex-solid : (x : ℕ) → Some HexDigit x → Solid x
-hex-solid x (d, p) = record { blank = λ e. outside (λ l h. omega arith) (λ l h. omega arith) (λ l h. omega arith) p; end = λ e. outside (λ l h. omega arith) (λ l h. omega arith) (λ l h. omega arith) p }
+hex-solid x (d, p) = record { blank = λ e. cases (λ q. omega arith) (λ q. omega arith) (λ q. omega arith) p; end = λ e. cases (λ q. omega arith) (λ q. omega arith) (λ q. omega arith) p }
 
 module _ {D : ℕ → ℕ → Type 0} {b : ℕ} (most : ℕ) (w : List ℕ) (at : ℕ) (s : Scan) (c : Scanned D b most w at s) where
   stops : s .end < at + most → Stops (Some D) (drop (s .end) w)

@@ -1,7 +1,8 @@
 // Reads single fields of the window. A field is read without searching its end first: what stops its digits must end it.
 // Each reader takes the window as a slice first, `bytes`: a proof learns the length of an array behind a reference in no other way.
 use base::wide;
-use digits::hex_digit;
+use digits::hex_value;
+use digits::is_hex;
 ghost use mathlib.Core.Path.{_≡_};
 ghost use mathlib.Core.Logic.{_⊎_};
 ghost use mathlib.Core.List.{[], _∷_};
@@ -45,14 +46,14 @@ fn decimal(w: &[u8; 256], at: usize) -> Scan
     let mut n: u64 = 0;
     let mut i = at;
     while i < at + 12 {
-        let b = bytes[i];
+        let b = wide(bytes[i]);
         if b < 48 {
             return Scan { end: i, value: n };
         }
         if 57 < b {
             return Scan { end: i, value: n };
         }
-        n = n * 10 + wide(b - 48);
+        n = n * 10 + (b - 48);
         i += 1;
     }
     Scan { end: i, value: n }
@@ -67,11 +68,10 @@ fn hexadecimal(w: &[u8; 256], at: usize) -> Scan
     let mut n: u64 = 0;
     let mut i = at;
     while i < at + 9 {
-        let d = hex_digit(bytes[i]);
-        if 16 <= d {
+        if !is_hex(bytes[i]) {
             return Scan { end: i, value: n };
         }
-        n = n * 16 + wide(d);
+        n = n * 16 + hex_value(bytes[i]);
         i += 1;
     }
     Scan { end: i, value: n }
@@ -216,7 +216,7 @@ fn long_mark(w: &[u8; 256], at: usize, a: u8, b: u8, c: u8, d: u8, value: u64) -
     Scan { end: at + 5, value }
 }
 
-// `Rx`, `Tx`, `Warng` or `Error`.
+// `Rx`, `Tx`, `Warng` or `Error`. No branch tells `Rx` from `Tx`: a trace mixes the two.
 pub fn mark_field(w: &[u8; 256], at: usize) -> Scan
     requires { ⌜ Starts (now w) at ⌝ }
     ensures { λ s. ⌜ Takes MarkField (now (w .entry)) at s ⌝ }
@@ -224,8 +224,7 @@ pub fn mark_field(w: &[u8; 256], at: usize) -> Scan
     let bytes: &[u8] = w;
     let m = bytes[at];
     match m {
-        82 => short_mark(w, at, 0),
-        84 => short_mark(w, at, 1),
+        82 | 84 => short_mark(w, at, wide((m - 82) / 2)),
         87 => long_mark(w, at, 97, 114, 110, 103, 2),
         69 => long_mark(w, at, 114, 114, 111, 114, 3),
         _ => none(),
@@ -283,12 +282,10 @@ pub fn byte_field(w: &[u8; 256], at: usize) -> Scan
     ensures { λ s. ⌜ Takes (Hex 2) (now (w .entry)) at s ⌝ }
 {
     let bytes: &[u8] = w;
-    let a = hex_digit(bytes[at]);
-    if 16 <= a {
+    if !is_hex(bytes[at]) {
         return none();
     }
-    let b = hex_digit(bytes[at + 1]);
-    if 16 <= b {
+    if !is_hex(bytes[at + 1]) {
         return none();
     }
     if !ends(bytes[at + 2]) {
@@ -296,7 +293,7 @@ pub fn byte_field(w: &[u8; 256], at: usize) -> Scan
     }
     Scan {
         end: at + 2,
-        value: wide(a) * 16 + wide(b),
+        value: hex_value(bytes[at]) * 16 + hex_value(bytes[at + 1]),
     }
 }
 

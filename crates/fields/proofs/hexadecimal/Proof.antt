@@ -4,7 +4,7 @@ use native.Mathlib.Omega.{arith}
 use borrow.Author.Needs.{needs}
 use Rattle.digits.specs.Digits.{HexDigit}
 use Rattle.digits.proofs.Strings.{hex}
-use Rattle.digits.proofs.Readers.{is-digit, no-digit}
+use Rattle.base.proofs.Tests.{shown-not, refuted-not}
 use Rattle.fields.proofs.Scans.{hex-solid}
 use Rattle.fields.proofs.Window.{inside}
 use Rattle.fields.proofs.Digits.{Passed, none-passed, one-passed, room, stopped, all-passed}
@@ -25,13 +25,14 @@ hexadecimal-spec =
     (λ c. omega (arith, inside (c .before .before .args .w .now) (c .before .before .args .at) (c .before .before .pre)))
     (λ c. inside _ _ (c .before .before .loop .inv .lined))
     (λ c κs. search needs)
-    (λ c. stopped (c .before .before .before .before .loop .inv) (no-digit (c .before .hex-digit .ensures) (c .if1 .taken)))
+    (λ c. let x = c .before .is-hex in
+    stopped (c .before .before .before .before .loop .inv) (λ d p. refuted-not (x .result) (x .ensures) (c .if1 .taken) (d, p)))
     (λ c. let r = room hex 8 (omega arith) (c .before .before .before .before .loop .inv) (omega arith) in omega arith)
-    (λ c κs. search needs)
-    (λ c. let r = room hex 8 (omega arith) (c .before .before .before .before .before .loop .inv) (omega arith) in omega arith)
-    (λ c. let l = c .before .before .before .before .before .loop in omega (arith, inside _ (l .i) (l .inv .lined)))
+    (λ c. inside _ _ (c .before .before .before .before .before .loop .inv .lined))
+    (λ c κs. let x = c .before .before .is-hex in shown-not (x .result) (x .ensures) (c .before .if1 .left))
+    (λ c. let r = room hex 8 (omega arith) (c .before .before .before .before .before .before .loop .inv) (omega arith) in
+    omega (arith, hex .small (c .hex-value .ensures)))
+    (λ c. let l = c .before .before .before .before .before .before .loop in omega (arith, inside _ (l .i) (l .inv .lined)))
     (λ c. omega arith)
-    (λ c. let l = c .before .before .before .before .before .loop in
-    let d = is-digit (c .before .before .hex-digit .ensures) (c .before .if1 .left) in
-    one-passed hex-solid (l .inv) (omega arith) (rw (c .wide .ensures .0) d))
+    (λ c. one-passed hex-solid (c .before .before .before .before .before .before .loop .inv) (omega arith) (c .hex-value .ensures))
     (λ c. all-passed (c .before .loop .inv) (omega arith)))

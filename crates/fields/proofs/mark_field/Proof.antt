@@ -1,12 +1,13 @@
 -- `fields::mark_field` goes by the first byte, which tells the mark.
 use Prim.Native.Nat.{ℕ}
 use mathlib.Core.Path.{ap}
+use mathlib.Core.Logic.{⊎-elim}
 use mathlib.Core.List.{[], _∷_}
 use native.Mathlib.Omega.{arith}
 use borrow.Author.Needs.{needs}
-use Rattle.fields.specs.Window.{not, rx, tx, warng, error}
+use Rattle.fields.specs.Window.{not, warng, error}
 use Rattle.fields.proofs.Window.{inside}
-use Rattle.fields.proofs.FixedFields.{first-is, mark-takes, no-mark, solid-at}
+use Rattle.fields.proofs.FixedFields.{first-is, short, mark-takes, no-mark, solid-at}
 use Rattle.fields.proofs.mark_field.Statement.{statement}
 use Rattle.fields.proofs.mark_field.Tie as tie
 
@@ -15,19 +16,18 @@ mark-field-spec =
     tie.close
     (tie.spec
     (λ c. inside _ _ (c .before .before .pre .lined))
-    (λ c κs. c .before .before .before .pre)
-    (λ c κs. c .before .before .before .pre)
+    (λ c. ⊎-elim (λ e. omega arith) (λ e. omega arith) (c .match .keys1))
+    (λ c κs. search needs)
+    (λ c κs. c .before .before .before .before .pre)
     (λ c κs. (c .before .before .before .pre, solid-at 97 (omega arith), solid-at 114 (omega arith), solid-at 110 (omega arith), solid-at 103 (omega arith)))
     (λ c κs. (c .before .before .before .pre, solid-at 114 (omega arith), solid-at 114 (omega arith), solid-at 111 (omega arith), solid-at 114 (omega arith)))
     (λ c κs. search needs)
+    (λ c. mark-takes (c .before .before .before .before .before .pre)
+    (short (λ e. omega arith) (λ e. omega arith) (c .before .before .match .keys1)) (c .short-mark .ensures))
     (λ c. mark-takes (c .before .before .before .before .pre)
-    (rx (ap (λ (x : ℕ). x ∷ 120 ∷ []) (c .before .match .keys1))) (c .short-mark .ensures))
+    (warng (ap (λ (x : ℕ). x ∷ 97 ∷ 114 ∷ 110 ∷ 103 ∷ []) (c .before .match .keys2))) (c .long-mark .ensures))
     (λ c. mark-takes (c .before .before .before .before .pre)
-    (tx (ap (λ (x : ℕ). x ∷ 120 ∷ []) (c .before .match .keys2))) (c .short-mark2 .ensures))
-    (λ c. mark-takes (c .before .before .before .before .pre)
-    (warng (ap (λ (x : ℕ). x ∷ 97 ∷ 114 ∷ 110 ∷ 103 ∷ []) (c .before .match .keys3))) (c .long-mark .ensures))
-    (λ c. mark-takes (c .before .before .before .before .pre)
-    (error (ap (λ (x : ℕ). x ∷ 114 ∷ 114 ∷ 111 ∷ 114 ∷ []) (c .before .match .keys4))) (c .long-mark2 .ensures))
+    (error (ap (λ (x : ℕ). x ∷ 114 ∷ 114 ∷ 111 ∷ 114 ∷ []) (c .before .match .keys3))) (c .long-mark2 .ensures))
     (λ c. let r = c .before .match .rest in
-    not (c .none .ensures) (λ f rest a v p. no-mark (r .0 .0 .0 .1) (r .0 .0 .1) (r .0 .1) (r .1)
+    not (c .none .ensures) (λ f rest a v p. no-mark (r .0 .0 .1) (r .0 .1) (r .1)
     (first-is (c .before .before .before .before .pre) a) p)))
