@@ -1,4 +1,5 @@
 pub mod Exporting
 pub mod Measuring
+pub mod Keeping
 pub mod Putting
 pub mod Answers

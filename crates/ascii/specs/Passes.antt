@@ -1,16 +1,26 @@
 -- What the passes of the export promise each other. No public promise cites this file.
-use Prim.Native.Nat.{ℕ, _≤_, _<_}
+use Prim.Native.Nat.{ℕ, _+_, _*_, _/_, _≤_, _<_}
 use mathlib.Core.Path.{_≡_}
 use mathlib.Core.List.{List}
 use lib.ListN.{length}
 use Rattle.base.specs.Wrote.{Wrote}
 use Rattle.clock.specs.declared.DateTime.{DateTime}
+use Rattle.clock.specs.Stamp.{Stamp, ticks}
 use Rattle.record.specs.declared.Record.{Record}
 use Rattle.ascii_line.specs.Line.{lineText}
+use Rattle.ascii_line.specs.Parts.{secondText}
 use Rattle.trace_writer.specs.Promise.{Holds, FirstMalformed}
 use Rattle.ascii.specs.declared.Measured.{Measured}
 use Rattle.ascii.specs.declared.Measured.the-variants as measured
 use Rattle.ascii.specs.Promise.{Exports, lineCount, leftCount}
+
+-- How many times 100 microseconds a start and an offset are, cut down.
+unfoldable pub ticksOf : ℕ → ℕ → ℕ
+ticksOf start offset = (start * 1000 + offset) / 100
+
+-- These bytes are those of every stamp of this second up to its point.
+pub record Shows (head : List ℕ) (second : ℕ) : Type 0 where
+  pub stamps : {start offset : ℕ} {s : DateTime} → Stamp start offset s → second ≡ ticks (s .time) / 10000 → head ≡ secondText s
 
 -- How many bytes the line of a record is, with any stamp, or 0 if it is left out.
 pub data LineBytes (r : Record) (n : ℕ) : Type 0 where

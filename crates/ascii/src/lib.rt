@@ -1,25 +1,28 @@
 // The export to Telemotive ASCII, from packed records. The first pass judges and measures, the second writes.
 use ascii_line::line_length;
 use ascii_line::put_line;
-use clock::DateTime;
+use ascii_line::put_second;
 use clock::START_LIMIT;
-use clock::date_of;
 use clock::stamp_of;
-use clock::time_of;
+use digits::Letters;
+use digits::pairs;
 use record::Record;
+use record::packed_at;
 use trace_writer::Entry;
 use trace_writer::record_at;
 ghost use mathlib.Core.Path.{_≡_};
-ghost use Prim.Native.Nat.{_+_, _≤_, _<_, _^_};
+ghost use Prim.Native.Nat.{_+_, _/_, _≤_, _<_, _^_};
 ghost use lib.ListN.{length};
 ghost use Rattle.clock.specs.Start.{startLimit};
-ghost use Rattle.clock.specs.Date.{Date};
-ghost use Rattle.clock.specs.Stamp.{Stamp};
+ghost use Rattle.clock.specs.declared.DateTime.{DateTime as AnyStamp};
+ghost use Rattle.digits.specs.House.{PairsOf};
+ghost use Rattle.digits.specs.declared.Letters.the-variants.{Small};
 ghost use Rattle.record.specs.Record.{WellFormed};
 ghost use Rattle.ascii_line.specs.Line.{lineText};
+ghost use Rattle.ascii_line.specs.Parts.{Begins};
 ghost use Rattle.trace_writer.specs.Promise.{Whole};
 ghost use Rattle.ascii.specs.Promise.{isFrame, exportNumbers, Numbered, ExportPromise};
-ghost use Rattle.ascii.specs.Passes.{LineBytes, LinePut, Measures, Fits, LinesPut};
+ghost use Rattle.ascii.specs.Passes.{ticksOf, Shows, LineBytes, LinePut, Measures, Fits, LinesPut};
 
 // The answer of `export`.
 pub enum Exported {
@@ -93,49 +96,62 @@ fn measure(records: &[u8]) -> Measured
     }
 }
 
-// The stamp of an offset. The date is computed only where the day is another than that of the stamp before.
-fn next_stamp(last: DateTime, start: u64, offset: u64) -> DateTime
-    requires { ⌜ Date (last .time .days) (last .date) × (start ≤ startLimit) × (offset < 2 ^ 48) ⌝ }
-    ensures { λ s. ⌜ Stamp start offset s ⌝ }
+// How many times 100 microseconds from the beginning of day 0 a start and an offset are.
+fn ticks_of(start: u64, offset: u64) -> u64
+    requires { ⌜ (start ≤ startLimit) × (offset < 2 ^ 48) ⌝ }
+    ensures { λ n. ⌜ n ≡ ticksOf start offset ⌝ }
 {
-    let time = time_of(start, offset);
-    let before = last.time;
-    let date = last.date;
-    if time.days == before.days {
-        return DateTime { date, time };
+    (start * 1000 + offset) / 100
+}
+
+// Puts the bytes of a stamp up to its point, unless those that stand there are of the same second.
+fn renew(head: &mut [u8; 20], last: u64, second: u64, start: u64, offset: u64)
+    requires { ⌜ Shows (now head) last × (start ≤ startLimit) × (offset < 2 ^ 48) × (second ≡ ticksOf start offset / 10000) ⌝ }
+    ensures { λ _. ⌜ Shows (now (head .exit)) second ⌝ }
+{
+    if second != last {
+        put_second(head, stamp_of(start, offset));
     }
-    let other = date_of(time.days);
-    DateTime { date: other, time }
 }
 
 // Puts the line of a record, unless it is left out, and gives the position after it.
-fn put_export(out: &mut [u8], at: usize, s: DateTime, r: Record) -> usize
-    requires { ⌜ WellFormed r × (r .kind ≤ 1 → at + length (lineText s r) ≤ length (now out)) ⌝ }
-    ensures { λ e. ⌜ LinePut (now (out .entry)) (now (out .exit)) at e s r ⌝ }
+fn put_export(
+    out: &mut [u8],
+    at: usize,
+    second: &[u8; 20],
+    part: u64,
+    r: Record,
+    pairs: &[u8; 512],
+) -> usize
+    requires { ⌜ WellFormed r × ((s : AnyStamp) × (r .kind ≤ 1 → at + length (lineText s r) ≤ length (now out))) × PairsOf Small (now pairs) ⌝ }
+    ensures { λ e. ⌜ ((s : AnyStamp) → Begins (now (second .entry)) part s → LinePut (now (out .entry)) (now (out .exit)) at e s r) ⌝ }
 {
     let given = frame(r);
     if given == 0 {
         return at;
     }
-    put_line(out, at, s, r)
+    put_line(out, at, second, part, r, pairs)
 }
 
-// The second pass: the lines are put into the output, which has room for them. No record is refused any more.
+// The second pass: the lines are put into the output, which has room for them. No record is judged any more. The bytes of a
+// stamp up to its point are kept in `head` from line to line: `last` is their second.
 fn put_lines(start: u64, records: &[u8], out: &mut [u8])
     requires { ⌜ Fits start (now records) (now out) × (start ≤ startLimit) ⌝ }
     ensures { λ _. ⌜ LinesPut start (now (records .entry)) (now (out .entry)) (now (out .exit)) ⌝ }
 {
     let mut at = 0;
     let mut p = 0;
-    let mut last = stamp_of(start, 0);
+    let mut last = start / 1000;
+    let mut head = [0u8; 20];
+    put_second(&mut head, stamp_of(start, 0));
+    let pairs = pairs(Letters::Small);
     while at < records.len() {
-        let next = record_at(records, at);
-        let Entry::Is(r) = next else {
-            return;
-        };
-        let s = next_stamp(last, start, r.offset);
-        p = put_export(out, p, s, r);
-        last = s;
+        let r = packed_at(records, at);
+        let ticks = ticks_of(start, r.offset);
+        let second = ticks / 10000;
+        renew(&mut head, last, second, start, r.offset);
+        last = second;
+        p = put_export(out, p, &head, ticks % 10000, r, &pairs);
         at += 20;
     }
 }

@@ -1,11 +1,13 @@
 -- The line by the pieces that its writer puts, and how long each is.
 use Prim.Native.Nat.{ℕ, _+_, _*_, _^_, _≤_}
-use mathlib.Core.Path.{_≡_, refl, ap, _∙_}
+use mathlib.Core.Path.{_≡_, refl, ap, sym, _∙_}
 use mathlib.Core.List.{List, [], _∷_, _++_, append-assoc, append-nil}
 use native.Mathlib.Decide.{ℕ-discrete}
 use native.Mathlib.Omega.{arith}
 use borrow.Author.Tests.{eq-eqb, ne-eqb}
-use lib.ListN.{length, length-append}
+use lib.ListN.{length, length-append, drop-of-length-le}
+use Rattle.base.specs.Wrote.{Wrote}
+use Rattle.base.proofs.Lists.{at-start}
 use Rattle.digits.specs.declared.Letters.the-variants.{Small}
 use Rattle.digits.specs.House.{decimalText, paddedText, hexText}
 use Rattle.digits.proofs.House.{length-fixed, few}
@@ -13,22 +15,39 @@ use Rattle.clock.specs.declared.CalendarDay.{CalendarDay}
 use Rattle.clock.specs.declared.DayTime.{DayTime}
 use Rattle.clock.specs.declared.DateTime.{DateTime}
 use Rattle.record.specs.declared.Record.{Record}
-use Rattle.fields.specs.Columns.{markRx, markTx}
 use Rattle.row.specs.House.{byteTexts}
 use Rattle.row_writer.specs.Parts.{spaced}
 use Rattle.row_writer.proofs.Rows.{spaced-none, spaced-more, spaced-append}
 use Rattle.row_writer.proofs.Bytes.{length-bytes}
-use Rattle.ascii_line.specs.Line.{dateText, timeText, typeText, channelOf, extendedTexts, directionText, idText, partTexts, lineText}
-use Rattle.ascii_line.specs.Parts.{sourceText, wayText, dataText, frameText}
+use Rattle.ascii_line.specs.Line.{dateText, timeText, stampText, typeText, channelOf, extendedTexts, directionText, idText, partTexts, lineText}
+use Rattle.ascii_line.specs.Parts.{clockText, secondText, sourceText, barText, wayText, dataText, restText, frameText}
 
 pub date : (d : CalendarDay) → dateText d ≡ paddedText 2 (d .day) ++ (46 ∷ (paddedText 2 (d .month) ++ (46 ∷ paddedText 4 (d .year))))
 unfolding dateText
 date d = refl
 
-pub time : (t : DayTime)
+pub clock : (t : DayTime)
+    → clockText t ≡ paddedText 2 (t .hour) ++ (58 ∷ (paddedText 2 (t .minute) ++ (58 ∷ (paddedText 2 (t .second) ++ (46 ∷ [])))))
+unfolding clockText
+clock t = refl
+
+pub second : (s : DateTime) → secondText s ≡ dateText (s .date) ++ (32 ∷ clockText (s .time))
+unfolding secondText
+second s = refl
+
+time : (t : DayTime)
     → timeText t ≡ paddedText 2 (t .hour) ++ (58 ∷ (paddedText 2 (t .minute) ++ (58 ∷ (paddedText 2 (t .second) ++ (46 ∷ paddedText 4 (t .part))))))
 unfolding timeText
 time t = refl
+
+-- A stamp is what it is up to its point, and its part.
+stamp-cut : (s : DateTime) → stampText s ≡ secondText s ++ paddedText 4 (s .time .part)
+stamp-cut s = rw (second, clock, time) (simp append-assoc)
+
+-- Stamps of one second are the same up to their points.
+pub same-second : (s u : DateTime) → s .date ≡ u .date → s .time .hour ≡ u .time .hour → s .time .minute ≡ u .time .minute
+    → s .time .second ≡ u .time .second → secondText s ≡ secondText u
+same-second s u d h m e = rw (second s, second u, clock (s .time), clock (u .time), d, h, m, e)
 
 pub first-channel : (bus : ℕ) → bus ≡ 0 → channelOf bus ≡ 1
 unfolding channelOf
@@ -46,21 +65,29 @@ pub standard-source : (x : ℕ) → (x ≡ 1 → ⊥) → sourceText x ≡ 32 �
 unfolding typeText
 standard-source x f = rw (ne-eqb x 1 f)
 
-pub received : (kind : ℕ) → kind ≡ 0 → directionText kind ≡ markRx
-unfolding directionText
-received kind e = rw (eq-eqb kind 0 e)
-
-pub sent : (kind : ℕ) → (kind ≡ 0 → ⊥) → directionText kind ≡ markTx
-unfolding directionText
-sent kind f = rw (ne-eqb kind 0 f)
-
-pub extended-way : (x kind : ℕ) → x ≡ 1 → wayText x kind ≡ 32 ∷ 124 ∷ 32 ∷ 69 ∷ 88 ∷ 84 ∷ 69 ∷ 78 ∷ 68 ∷ 69 ∷ 68 ∷ 32 ∷ directionText kind
+pub extended-bar : (x : ℕ) → x ≡ 1 → barText x ≡ 32 ∷ 124 ∷ 32 ∷ 69 ∷ 88 ∷ 84 ∷ 69 ∷ 78 ∷ 68 ∷ 69 ∷ 68 ∷ 32 ∷ []
 unfolding extendedTexts
-extended-way x kind e = rw (eq-eqb x 1 e, spaced-more, spaced-more, spaced-more, spaced-none, append-nil (directionText kind))
+extended-bar x e = rw (eq-eqb x 1 e, spaced-more, spaced-more, spaced-none)
 
-pub standard-way : (x kind : ℕ) → (x ≡ 1 → ⊥) → wayText x kind ≡ 32 ∷ 124 ∷ 32 ∷ directionText kind
+pub standard-bar : (x : ℕ) → (x ≡ 1 → ⊥) → barText x ≡ 32 ∷ 124 ∷ 32 ∷ []
 unfolding extendedTexts
-standard-way x kind f = rw (ne-eqb x 1 f, spaced-more, spaced-more, spaced-none, append-nil (directionText kind))
+standard-bar x f = rw (ne-eqb x 1 f, spaced-more, spaced-none)
+
+-- `R` is 82, `T` is 84, and the `x` 120.
+direction : (kind : ℕ) → kind ≤ 1 → directionText kind ≡ (82 + 2 * kind) ∷ 120 ∷ []
+unfolding directionText
+direction kind k =
+    elim (ℕ-discrete kind 0) [ yes e ↦ rw (eq-eqb kind 0 e, e) | no f ↦ let o : kind ≡ 1 = omega arith in rw (ne-eqb kind 0 f, o) ]
+
+way-cut : (x kind : ℕ) → wayText x kind ≡ barText x ++ directionText kind
+way-cut x kind =
+    let bar = spaced ((124 ∷ []) ∷ extendedTexts x) in
+    let e : spaced (directionText kind ∷ []) ≡ 32 ∷ directionText kind = rw (spaced-more, spaced-none, append-nil (directionText kind)) in
+    spaced-append ((124 ∷ []) ∷ extendedTexts x) (directionText kind ∷ [])
+    ∙ ap (λ (t : List ℕ). bar ++ t) e ∙ sym (append-assoc bar (32 ∷ []) (directionText kind))
+
+pub way : (x kind : ℕ) → kind ≤ 1 → wayText x kind ≡ barText x ++ ((82 + 2 * kind) ∷ 120 ∷ [])
+way x kind k = rw (way-cut, direction kind k)
 
 pub extended-id : (r : Record) → r .extended ≡ 1 → idText r ≡ hexText Small 8 (r .id)
 unfolding idText
@@ -88,27 +115,34 @@ frame-cut r =
     rw (spaced-more, spaced-more, way-more, data-more)
     (regroup (32 ∷ typeText (r .extended)) (32 ∷ 35 ∷ []) (decimalText (channelOf (r .bus))) (wayText (r .extended) (r .kind)) (32 ∷ idText r) (dataText r) (13 ∷ 10 ∷ []))
 
-pub line-cut : (s : DateTime) (r : Record) → lineText s r ≡ dateText (s .date) ++ (32 ∷ (timeText (s .time) ++ frameText r))
+pub line-cut : (s : DateTime) (r : Record) → lineText s r ≡ secondText s ++ (paddedText 4 (s .time .part) ++ frameText r)
 unfolding lineText
-line-cut s r =
-    append-assoc (dateText (s .date)) _ _ ∙ ap (λ (t : List ℕ). dateText (s .date) ++ (32 ∷ (timeText (s .time) ++ t))) (frame-cut r)
+line-cut s r = rw (frame-cut, stamp-cut, append-assoc)
 
 -- How long the pieces are.
 
 length-date : (d : CalendarDay) → length (dateText d) ≡ 10
 length-date d = rw date (simp (length-append, length-fixed))
 
-length-time : (t : DayTime) → length (timeText t) ≡ 13
-length-time t = rw time (simp (length-append, length-fixed))
+length-clock : (t : DayTime) → length (clockText t) ≡ 9
+length-clock t = rw clock (simp (length-append, length-fixed))
+
+pub length-second : (s : DateTime) → length (secondText s) ≡ 20
+length-second s = rw second (omega (arith, length-append (dateText (s .date)) (32 ∷ clockText (s .time)), length-date (s .date), length-clock (s .time)))
+
+-- What takes all the room is all there is.
+pub all-put : {old new : List ℕ} {e : ℕ} (s : DateTime) → length old ≡ 20 → Wrote old new 0 e (dateText (s .date) ++ (32 ∷ clockText (s .time))) → new ≡ secondText s
+all-put {old} s h w =
+    let n = length-second s in
+    let v = rw (← second s) at w in
+    at-start v (omega arith) ∙ rw (drop-of-length-le old {i = length (secondText s)} (omega arith), append-nil (secondText s))
 
 length-direction : (kind : ℕ) → length (directionText kind) ≡ 2
-length-direction kind = elim (ℕ-discrete kind 0) [ yes e ↦ ap length (received kind e) | no f ↦ ap length (sent kind f) ]
+unfolding directionText
+length-direction kind = elim (ℕ-discrete kind 0) [ yes e ↦ rw (eq-eqb kind 0 e) | no f ↦ rw (ne-eqb kind 0 f) ]
 
-pub length-extended-way : (x kind : ℕ) → x ≡ 1 → length (wayText x kind) ≡ 14
-length-extended-way x kind e = omega (arith, ap length (extended-way x kind e), length-direction kind)
-
-pub length-standard-way : (x kind : ℕ) → (x ≡ 1 → ⊥) → length (wayText x kind) ≡ 5
-length-standard-way x kind f = omega (arith, ap length (standard-way x kind f), length-direction kind)
+pub length-way : (x kind : ℕ) → length (wayText x kind) ≡ length (barText x) + 2
+length-way x kind = rw (way-cut, length-append, length-direction)
 
 pub length-extended-id : (r : Record) → r .extended ≡ 1 → length (idText r) ≡ 8
 length-extended-id r e = rw (extended-id r e, length-fixed)
@@ -120,9 +154,13 @@ pub length-data : (r : Record) → length (dataText r) ≡ 2 + 3 * r .len
 length-data r = omega (arith, length-bytes Small (256 ^ 7) (r .len) (r .«data»))
 
 pub line-length : (s : DateTime) (r : Record) → length (lineText s r) ≡ length (frameText r) + 24
-line-length s r = rw (line-cut, length-append) (omega (arith, length-append (timeText (s .time)) (frameText r), length-date (s .date), length-time (s .time)))
+line-length s r =
+    rw (line-cut, length-append, length-append, length-second, length-fixed) (omega arith)
 
 -- In these n is the channel, as the writer has computed it.
+
+pub rest-length : (r : Record) → length (restText r) ≡ length (32 ∷ idText r) + length (dataText r) + 2
+rest-length r = simp length-append (omega arith)
 
 pub frame-length : {n : ℕ} (r : Record) → n ≡ channelOf (r .bus)
     → length (frameText r) ≡ length (sourceText (r .extended)) + length (decimalText n) + length (wayText (r .extended) (r .kind)) + length (32 ∷ idText r) + length (dataText r) + 2
@@ -130,12 +168,12 @@ frame-length r e = rw e (simp length-append (omega arith))
 
 pub extended-length : {n : ℕ} (r : Record) → n ≡ channelOf (r .bus) → r .extended ≡ 1 → length (frameText r) ≡ length (decimalText n) + 3 * r .len + 36
 extended-length r e h =
-    omega (arith, frame-length r e, ap length (extended-source (r .extended) h), length-extended-way (r .extended) (r .kind) h, length-extended-id r h, length-data r)
+    omega (arith, frame-length r e, ap length (extended-source (r .extended) h), length-way (r .extended) (r .kind), ap length (extended-bar (r .extended) h), length-extended-id r h, length-data r)
 
 pub standard-length : {n : ℕ} (r : Record) → n ≡ channelOf (r .bus) → r .extended ≡ 0 → length (frameText r) ≡ length (decimalText n) + 3 * r .len + 19
 standard-length r e h =
     let f : r .extended ≡ 1 → ⊥ = λ k. omega arith in
-    omega (arith, frame-length r e, ap length (standard-source (r .extended) f), length-standard-way (r .extended) (r .kind) f, length-standard-id r h, length-data r)
+    omega (arith, frame-length r e, ap length (standard-source (r .extended) f), length-way (r .extended) (r .kind), ap length (standard-bar (r .extended) f), length-standard-id r h, length-data r)
 
 pub short-channel : {n bus : ℕ} → n ≡ channelOf bus → bus ≤ 16 → length (decimalText n) ≤ 2
 short-channel {n} {bus} e h =

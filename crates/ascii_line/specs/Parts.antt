@@ -1,16 +1,36 @@
--- The line in the pieces that its writer's private functions put. No public promise cites this file.
+-- The line in the pieces that its writer puts. The promise of the export does not cite this file.
 use Prim.Native.Nat.{ℕ, _+_, _^_}
+use mathlib.Core.Path.{_≡_}
 use mathlib.Core.List.{List, [], _∷_, _++_}
 use Rattle.digits.specs.declared.Letters.the-variants.{Small}
-use Rattle.digits.specs.House.{decimalText}
+use Rattle.digits.specs.House.{decimalText, paddedText}
+use Rattle.clock.specs.declared.DayTime.{DayTime}
+use Rattle.clock.specs.declared.DateTime.{DateTime}
 use Rattle.record.specs.declared.Record.{Record}
 use Rattle.row.specs.House.{byteTexts}
 use Rattle.row_writer.specs.Parts.{spaced}
-use Rattle.ascii_line.specs.Line.{typeText, channelOf, extendedTexts, directionText, idText}
+use Rattle.ascii_line.specs.Line.{dateText, typeText, channelOf, extendedTexts, directionText, idText}
+
+-- `hh:mm:ss.`
+unfoldable pub clockText : DayTime → List ℕ
+clockText t = paddedText 2 (t .hour) ++ (58 ∷ (paddedText 2 (t .minute) ++ (58 ∷ (paddedText 2 (t .second) ++ (46 ∷ [])))))
+
+-- A stamp up to its point: all but its part.
+unfoldable pub secondText : DateTime → List ℕ
+secondText s = dateText (s .date) ++ (32 ∷ clockText (s .time))
+
+-- These bytes and this part are the stamp's.
+pub record Begins (second : List ℕ) (part : ℕ) (s : DateTime) : Type 0 where
+  pub bytes : second ≡ secondText s
+  pub rest : part ≡ s .time .part
 
 -- The type behind one blank, and the `#` of the channel behind another.
 abbrev pub sourceText : ℕ → List ℕ
 sourceText extended = (32 ∷ typeText extended) ++ (32 ∷ 35 ∷ [])
+
+-- The bar and, for an extended ID, `EXTENDED`, each behind one blank, and the blank of the direction.
+abbrev pub barText : ℕ → List ℕ
+barText extended = spaced ((124 ∷ []) ∷ extendedTexts extended) ++ (32 ∷ [])
 
 -- The bar and the direction, each behind one blank.
 abbrev pub wayText : ℕ → ℕ → List ℕ
@@ -20,8 +40,10 @@ wayText extended kind = spaced ((124 ∷ []) ∷ (extendedTexts extended ++ (dir
 abbrev pub dataText : Record → List ℕ
 dataText r = (32 ∷ (48 + r .len) ∷ []) ++ spaced (byteTexts Small (256 ^ 7) (r .len) (r .«data»))
 
+-- ID, length and bytes, and CR LF.
+abbrev pub restText : Record → List ℕ
+restText r = (32 ∷ idText r) ++ (dataText r ++ (13 ∷ 10 ∷ []))
+
 -- What stands behind the stamp, and CR LF.
 abbrev pub frameText : Record → List ℕ
-frameText r =
-    sourceText (r .extended)
-    ++ (decimalText (channelOf (r .bus)) ++ (wayText (r .extended) (r .kind) ++ ((32 ∷ idText r) ++ (dataText r ++ (13 ∷ 10 ∷ [])))))
+frameText r = sourceText (r .extended) ++ (decimalText (channelOf (r .bus)) ++ (wayText (r .extended) (r .kind) ++ restText r))

@@ -10,15 +10,17 @@ use digits::put_decimal;
 use digits::put_hex;
 use digits::put_padded;
 use record::Record;
-use row_writer::put_bytes;
+use row_writer::put_pairs;
 ghost use mathlib.Core.Path.{_≡_};
 ghost use mathlib.Core.List.{_∷_};
 ghost use Prim.Native.Nat.{_+_, _≤_};
 ghost use lib.ListN.{length};
 ghost use Rattle.base.specs.Wrote.{Wrote};
+ghost use Rattle.digits.specs.House.{PairsOf};
+ghost use Rattle.digits.specs.declared.Letters.the-variants.{Small};
 ghost use Rattle.clock.specs.declared.DateTime.{DateTime as AnyStamp};
-ghost use Rattle.ascii_line.specs.Line.{dateText, timeText, channelOf, idText, lineText};
-ghost use Rattle.ascii_line.specs.Parts.{sourceText, wayText, dataText, frameText};
+ghost use Rattle.ascii_line.specs.Line.{dateText, channelOf, idText, lineText};
+ghost use Rattle.ascii_line.specs.Parts.{clockText, secondText, Begins, sourceText, barText, wayText, dataText, restText, frameText};
 
 // `dd.mm.yyyy`
 fn put_date(out: &mut [u8], at: usize, d: CalendarDay) -> usize
@@ -33,19 +35,30 @@ fn put_date(out: &mut [u8], at: usize, d: CalendarDay) -> usize
     put_padded(out, e, 4, d.year)
 }
 
-// `hh:mm:ss.xxxx`
-fn put_time(out: &mut [u8], at: usize, t: DayTime) -> usize
-    requires { ⌜ at + 13 ≤ length (now out) ⌝ }
-    ensures { λ r. ⌜ Wrote (now (out .entry)) (now (out .exit)) at r (timeText t) ⌝ }
-    ensures { λ r. ⌜ r ≡ at + 13 ⌝ }
+// `hh:mm:ss.`
+fn put_clock(out: &mut [u8], at: usize, t: DayTime) -> usize
+    requires { ⌜ at + 9 ≤ length (now out) ⌝ }
+    ensures { λ r. ⌜ Wrote (now (out .entry)) (now (out .exit)) at r (clockText t) ⌝ }
+    ensures { λ r. ⌜ r ≡ at + 9 ⌝ }
 {
     let a = put_padded(out, at, 2, t.hour);
     let b = put_byte(out, a, 58);
     let c = put_padded(out, b, 2, t.minute);
     let d = put_byte(out, c, 58);
     let e = put_padded(out, d, 2, t.second);
-    let f = put_byte(out, e, 46);
-    put_padded(out, f, 4, t.part)
+    put_byte(out, e, 46)
+}
+
+// Puts a stamp up to its point, `dd.mm.yyyy hh:mm:ss.`: all but its part, and the same for every stamp of a second.
+pub fn put_second(out: &mut [u8; 20], s: DateTime)
+    ensures { λ _. ⌜ now (out .exit) ≡ secondText s ⌝ }
+{
+    let slots: &mut [u8] = out;
+    let date = s.date;
+    let time = s.time;
+    let p = put_date(slots, 0, date);
+    let q = put_byte(slots, p, 32);
+    put_clock(slots, q, time);
 }
 
 // Bus 0 is written as channel 1.
@@ -69,21 +82,26 @@ fn put_source(out: &mut [u8], at: usize, extended: u64) -> usize
     put_text(out, at, b" CAN #")
 }
 
-// The bar, `EXTENDED` for an extended ID, and `Rx` or `Tx`.
-fn put_way(out: &mut [u8], at: usize, extended: u64, kind: u64) -> usize
-    requires { ⌜ at + length (wayText extended kind) ≤ length (now out) ⌝ }
-    ensures { λ r. ⌜ Wrote (now (out .entry)) (now (out .exit)) at r (wayText extended kind) ⌝ }
+// The bar, and `EXTENDED` for an extended ID, up to the blank before the direction.
+fn put_bar(out: &mut [u8], at: usize, extended: u64) -> usize
+    requires { ⌜ at + length (barText extended) ≤ length (now out) ⌝ }
+    ensures { λ r. ⌜ Wrote (now (out .entry)) (now (out .exit)) at r (barText extended) ⌝ }
 {
     if extended == 1 {
-        if kind == 0 {
-            return put_text(out, at, b" | EXTENDED Rx");
-        }
-        return put_text(out, at, b" | EXTENDED Tx");
+        return put_text(out, at, b" | EXTENDED ");
     }
-    if kind == 0 {
-        return put_text(out, at, b" | Rx");
-    }
-    put_text(out, at, b" | Tx")
+    put_text(out, at, b" | ")
+}
+
+// The bar, `EXTENDED` for an extended ID, and `Rx` or `Tx`. `R` is 82 and `T` 84: the byte is computed, since a branch on the kind
+// would often be guessed wrong.
+fn put_way(out: &mut [u8], at: usize, extended: u64, kind: u64) -> usize
+    requires { ⌜ (kind ≤ 1) × (at + length (wayText extended kind) ≤ length (now out)) ⌝ }
+    ensures { λ r. ⌜ Wrote (now (out .entry)) (now (out .exit)) at r (wayText extended kind) ⌝ }
+{
+    let p = put_bar(out, at, extended);
+    let q = put_byte(out, p, 82 + 2 * kind as u8);
+    put_byte(out, q, 120)
 }
 
 // Eight digits of an extended ID, three of a standard one.
@@ -99,26 +117,34 @@ fn put_id(out: &mut [u8], at: usize, r: Record) -> usize
 }
 
 // Length and bytes.
-fn put_data(out: &mut [u8], at: usize, r: Record) -> usize
-    requires { ⌜ (r .len ≤ 8) × (at + length (dataText r) ≤ length (now out)) ⌝ }
+fn put_data(out: &mut [u8], at: usize, r: Record, pairs: &[u8; 512]) -> usize
+    requires { ⌜ (r .len ≤ 8) × (at + length (dataText r) ≤ length (now out)) × PairsOf Small (now pairs) ⌝ }
     ensures { λ e. ⌜ Wrote (now (out .entry)) (now (out .exit)) at e (dataText r) ⌝ }
 {
     let p = put_byte(out, at, 32);
     let q = put_byte(out, p, 48 + r.len as u8);
-    put_bytes(out, q, r.len, r.data, Letters::Small)
+    put_pairs(out, q, r.len, r.data, pairs)
+}
+
+// ID, length and bytes, and CR LF.
+fn put_rest(out: &mut [u8], at: usize, r: Record, pairs: &[u8; 512]) -> usize
+    requires { ⌜ (r .extended ≤ 1) × (r .len ≤ 8) × (at + length (restText r) ≤ length (now out)) × PairsOf Small (now pairs) ⌝ }
+    ensures { λ e. ⌜ Wrote (now (out .entry)) (now (out .exit)) at e (restText r) ⌝ }
+{
+    let p = put_id(out, at, r);
+    let q = put_data(out, p, r, pairs);
+    put_text(out, q, b"\r\n")
 }
 
 // What stands behind the stamp, and CR LF.
-fn put_frame(out: &mut [u8], at: usize, r: Record) -> usize
-    requires { ⌜ (r .extended ≤ 1) × (r .len ≤ 8) × (at + length (frameText r) ≤ length (now out)) ⌝ }
+fn put_frame(out: &mut [u8], at: usize, r: Record, pairs: &[u8; 512]) -> usize
+    requires { ⌜ (r .extended ≤ 1) × (r .kind ≤ 1) × (r .len ≤ 8) × (at + length (frameText r) ≤ length (now out)) × PairsOf Small (now pairs) ⌝ }
     ensures { λ e. ⌜ Wrote (now (out .entry)) (now (out .exit)) at e (frameText r) ⌝ }
 {
     let p = put_source(out, at, r.extended);
     let q = put_decimal(out, p, channel(r.bus));
     let s = put_way(out, q, r.extended, r.kind);
-    let t = put_id(out, s, r);
-    let u = put_data(out, t, r);
-    put_text(out, u, b"\r\n")
+    put_rest(out, s, r, pairs)
 }
 
 // How many bytes the line of a record is, whatever its stamp.
@@ -134,15 +160,20 @@ pub fn line_length(r: Record) -> usize
     number + bytes + 43
 }
 
-// Puts the line of a record with a stamp at a position, and gives the position after it.
-pub fn put_line(out: &mut [u8], at: usize, s: DateTime, r: Record) -> usize
-    requires { ⌜ (r .extended ≤ 1) × (r .len ≤ 8) × (at + length (lineText s r) ≤ length (now out)) ⌝ }
-    ensures { λ e. ⌜ Wrote (now (out .entry)) (now (out .exit)) at e (lineText s r) ⌝ }
+// Puts the line of a record at a position, and gives the position after it. Of the stamp it takes the bytes up to the point, and the part; `pairs`
+// has the two digits of each byte.
+pub fn put_line(
+    out: &mut [u8],
+    at: usize,
+    second: &[u8; 20],
+    part: u64,
+    r: Record,
+    pairs: &[u8; 512],
+) -> usize
+    requires { ⌜ (r .extended ≤ 1) × (r .kind ≤ 1) × (r .len ≤ 8) × ((s : AnyStamp) × (at + length (lineText s r) ≤ length (now out))) × PairsOf Small (now pairs) ⌝ }
+    ensures { λ e. ⌜ ((s : AnyStamp) → Begins (now (second .entry)) part s → Wrote (now (out .entry)) (now (out .exit)) at e (lineText s r)) ⌝ }
 {
-    let date = s.date;
-    let time = s.time;
-    let p = put_date(out, at, date);
-    let q = put_byte(out, p, 32);
-    let t = put_time(out, q, time);
-    put_frame(out, t, r)
+    let p = put_text(out, at, second);
+    let q = put_padded(out, p, 4, part);
+    put_frame(out, q, r, pairs)
 }

@@ -5,8 +5,8 @@ use mathlib.Core.List.{List, _++_}
 use native.Mathlib.Nat.{add-zero, div-add-mod', mul-mod-left}
 use native.Mathlib.Omega.{arith}
 use lib.Arith.{digits-lt}
-use lib.ListN.{length, length-append}
-use lib.Seq.{slice, sets, take-all}
+use lib.ListN.{length, take, drop, length-append}
+use lib.Seq.{slice, sets, take-add, drop-at, length-take-le}
 use Rattle.base.proofs.Lists.{sets-append}
 use Rattle.base.proofs.Numbers.{parts}
 use Rattle.record.specs.declared.Record.{Record}
@@ -35,6 +35,11 @@ widths w =
       len = omega arith;
       «data» = omega arith;
     }
+
+pub widths-of : {r : Record}
+    → (r .offset < 2 ^ 48) × (r .bus < 2 ^ 5) × (r .kind < 2 ^ 3) × (r .extended < 2) × (r .id < 2 ^ 29) × (r .len < 2 ^ 4) × (r .«data» < 2 ^ 64)
+    → Widths r
+widths-of f = record { offset = f .0; bus = f .1; kind = f .2; extended = f .3; id = f .4; len = f .5; «data» = f .6 }
 
 -- The bits from a part o of the offset to the length.
 abbrev after : Record → ℕ → ℕ
@@ -113,16 +118,18 @@ module _ (r : Record) (h : Widths r) where
       → c ≡ sets b (i + 12) (bytes 8 (r .«data» % 2 ^ 58 * 2 ^ 6)) → c ≡ sets l i (bytes 20 (number r))
   stored-words l a b c i m e p q s = rw (s, q, p, e, words) (simp (sets-append, length-append, length-bytes))
 
--- Twenty bytes are the bytes of their three words.
-pub read-words : (s : List ℕ) (h m l : ℕ) → length s ≡ 20 → m < 256 ^ 8 → l < 256 ^ 8
-    → slice 0 4 s ≡ bytes 4 h → slice 4 12 s ≡ bytes 8 m → slice 12 20 s ≡ bytes 8 l
-    → s ≡ bytes 20 ((h * 256 ^ 8 + m) * 256 ^ 8 + l)
-read-words s h m l e pm pl p q r =
-    let w : 12 ≤ length s = omega arith in
-    let x : 20 ≤ length s = omega arith in
-    let y : length s ≤ 20 = omega arith in
-    let f = read-join 4 8 s 0 4 12 h m refl refl w pm p q in
-    sym (take-all 20 s y) ∙ read-join 12 8 s 0 12 20 (h * 256 ^ 8 + m) l refl refl x pl f r
+-- The bytes behind a place, as a slice.
+slice-behind : (at n : ℕ) (s : List ℕ) → at ≤ length s → slice at (at + n) s ≡ take n (drop at s)
+slice-behind at n s h = rw (take-add at n s) (drop-at (take at s) (take n (drop at s)) at (length-take-le at s h))
+
+-- The twenty bytes at a place are the bytes of their three words.
+pub read-words : (s : List ℕ) (at h m l : ℕ) → at + 20 ≤ length s → m < 256 ^ 8 → l < 256 ^ 8
+    → slice at (at + 4) s ≡ bytes 4 h → slice (at + 4) (at + 4 + 8) s ≡ bytes 8 m → slice (at + 12) (at + 12 + 8) s ≡ bytes 8 l
+    → take 20 (drop at s) ≡ bytes 20 ((h * 256 ^ 8 + m) * 256 ^ 8 + l)
+read-words s at h m l e pm pl p q r =
+    let f = read-join 4 8 s at (at + 4) (at + 12) h m refl (omega arith) (omega arith) pm p q in
+    sym (slice-behind at 20 s (omega arith))
+    ∙ read-join 12 8 s at (at + 12) (at + 20) (h * 256 ^ 8 + m) l refl (omega arith) e pl f r
 
 pub words-lt : (h m l : ℕ) → h < 256 ^ 4 → m < 256 ^ 8 → l < 256 ^ 8 → (h * 256 ^ 8 + m) * 256 ^ 8 + l < 256 ^ 20
 words-lt h m l p q r = digits-lt (digits-lt p q) r

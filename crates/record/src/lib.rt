@@ -3,11 +3,11 @@ use base::wide;
 ghost use mathlib.Core.Path.{_≡_};
 ghost use mathlib.Core.Logic.{_⊎_};
 ghost use Prim.Native.Nat.{_+_, _-_, _*_, _/_, _%_, _^_, _≤_, _<_};
-ghost use lib.ListN.{length};
+ghost use lib.ListN.{length, take, drop};
 ghost use lib.Seq.{slice, sets};
 ghost use Rattle.base.specs.Decides.{Decides};
 ghost use Rattle.record.specs.Bytes.{bytes};
-ghost use Rattle.record.specs.Record.{number, ErrorId, Position, Warning, ErrorFrame, WellFormed};
+ghost use Rattle.record.specs.Record.{number, ErrorId, Position, Warning, ErrorFrame, WellFormed, Packs, PackedAt};
 ghost use Rattle.record.specs.Promise.{packNumbers, unpackNumbers, PackPromise, UnpackPromise};
 
 // The fields of a record, each wide enough to hold a wrong value. `data` is the eight data bytes, the first most
@@ -272,6 +272,18 @@ fn record_of(h: u64, m: u64, l: u64) -> Record
         len: a % 16,
         data: m % 64 * 0x400_0000_0000_0000 + l / 64,
     }
+}
+
+// The record whose twenty bytes stand at a position, where they are a packed record. Nothing is judged here: the second pass of a writer
+// calls it for bytes that the first pass judged.
+pub fn packed_at(s: &[u8], at: usize) -> Record
+    requires { ⌜ PackedAt (now s) at ⌝ }
+    ensures { λ r. ⌜ Packs r (take 20 (drop at (now (s .entry)))) ⌝ }
+{
+    let h = get4(s, at);
+    let m = get8(s, at + 4);
+    let l = get8(s, at + 12);
+    record_of(h, m, l)
 }
 
 // The record that twenty bytes are.

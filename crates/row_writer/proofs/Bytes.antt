@@ -5,11 +5,11 @@ use mathlib.Core.List.{List, [], _∷_, _++_, append-nil}
 use native.Mathlib.Nat.{add-zero, div-one, pow-zero, pow-suc, suc-mul, mul-comm, div-div-eq-div-mul}
 use native.Mathlib.Omega.{arith}
 use lib.Pow.{pow-add, shl-shr}
-use lib.ListN.{length, length-append}
+use lib.ListN.{length, getD, length-append}
 use Rattle.base.specs.Wrote.{Wrote}
 use Rattle.base.proofs.Lists.{then}
 use Rattle.digits.specs.declared.Letters.{Letters}
-use Rattle.digits.specs.House.{glyphOf, hexText}
+use Rattle.digits.specs.House.{glyphOf, PairsOf, hexText}
 use Rattle.digits.proofs.House.{fixed-zero, fixed-step, length-fixed}
 use Rattle.row.specs.House.{byteTexts}
 use Rattle.row_writer.specs.Parts.{spaced}
@@ -19,6 +19,10 @@ pub two-digits : (x : Letters) (b : ℕ) → b < 256 → hexText x 2 b ≡ glyph
 two-digits x b h =
     let e : b / 16 % 16 ≡ b / 16 = omega arith in
     rw (fixed-step, fixed-step, fixed-zero, e)
+
+-- a table of pairs has them
+pub paired : {x : Letters} {t : List ℕ} (b : ℕ) → b < 256 → PairsOf x t → hexText x 2 b ≡ getD t (2 * b) 0 ∷ getD t (2 * b + 1) 0 ∷ []
+paired {x} b h p = two-digits x b h ∙ rw (p .high b h, p .low b h)
 
 none : (x : Letters) (place sum : ℕ) → spaced (byteTexts x place 0 sum) ≡ []
 unfolding byteTexts

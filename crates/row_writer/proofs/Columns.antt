@@ -1,17 +1,18 @@
 -- The text of each column, by the tests that the writer makes.
 use Prim.Native.Nat.{ℕ, zero, suc, _+_, _*_, _/_, _%_, _^_, _≤_, _<_}
-use mathlib.Core.Path.{_≡_, refl, _∙_}
-use mathlib.Core.Logic.{_⊎_, inl, inr, ⊎-elim}
+use mathlib.Core.Path.{_≡_, refl, ap, _∙_}
+use mathlib.Core.Logic.{⊎-elim}
 use mathlib.Core.List.{[], _∷_, _++_, append-nil}
 use native.Mathlib.Nat.{div-one}
 use native.Mathlib.Omega.{arith}
 use borrow.Author.Tests.{eq-eqb, ne-eqb}
 use lib.ListN.{length, length-append}
+use Rattle.base.proofs.Numbers.{below-or-not}
 use Rattle.digits.specs.declared.Letters.the-variants.{Capital}
 use Rattle.digits.specs.House.{decimalText, paddedText, hexText}
 use Rattle.digits.proofs.House.{length-fixed}
 use Rattle.record.specs.declared.Record.{Record}
-use Rattle.fields.specs.Columns.{markRx, markTx, markWarng, markError, remoteText}
+use Rattle.fields.specs.Columns.{markWarng, markError, remoteText}
 use Rattle.row.specs.House.{fractionDigits, numberText, offsetText, busTexts, markText, idText, byteTexts, dataTexts}
 use Rattle.row_writer.specs.Parts.{spaced}
 use Rattle.row_writer.proofs.Rows.{spaced-none, spaced-more}
@@ -49,47 +50,27 @@ pub bus-12 : (v n : ℕ) → (v ≡ 11 → ⊥) → spaced (busTexts v n) ≡ 32
 unfolding busTexts
 bus-12 v n f = rw (ne-eqb v 11 f, spaced-more, spaced-none, append-nil (decimalText n))
 
-pub rx : (kind : ℕ) → (kind ≡ 0) ⊎ (kind ≡ 2) → markText kind ≡ markRx
+pub frame-mark : (kind : ℕ) → kind < 4 → markText kind ≡ (82 + 2 * (kind % 2)) ∷ 120 ∷ []
 unfolding markText
-rx kind = ⊎-elim (λ e. rw e) (λ e. rw e)
-
-pub tx : (kind : ℕ) → (kind ≡ 1) ⊎ (kind ≡ 3) → markText kind ≡ markTx
-unfolding markText
-tx kind = ⊎-elim (λ e. rw e) (λ e. rw e)
+frame-mark zero h = refl
+frame-mark (suc zero) h = refl
+frame-mark (suc (suc zero)) h = refl
+frame-mark (suc (suc (suc zero))) h = refl
+frame-mark (suc (suc (suc (suc n)))) h = absurd (omega arith)
 
 pub warng : (kind : ℕ) → kind ≡ 4 → markText kind ≡ markWarng
 unfolding markText
 warng kind e = rw e
 
--- what is left of the kinds
-pub error : (kind : ℕ) → kind ≤ 5 → ((kind ≡ 0) ⊎ (kind ≡ 2) → ⊥) → ((kind ≡ 1) ⊎ (kind ≡ 3) → ⊥) → (kind ≡ 4 → ⊥)
-    → markText kind ≡ markError
+pub error : (kind : ℕ) → kind ≡ 5 → markText kind ≡ markError
 unfolding markText
-error zero h f g k = absurd (f (inl refl))
-error (suc zero) h f g k = absurd (g (inl refl))
-error (suc (suc zero)) h f g k = absurd (f (inr refl))
-error (suc (suc (suc zero))) h f g k = absurd (g (inr refl))
-error (suc (suc (suc (suc zero)))) h f g k = absurd (k refl)
-error (suc (suc (suc (suc (suc zero))))) h f g k = refl
-error (suc (suc (suc (suc (suc (suc n)))))) h f g k = absurd (omega arith)
+error kind e = rw e
 
 pub short-mark : (kind : ℕ) → kind < 4 → length (markText kind) ≡ 2
-unfolding markText
-short-mark zero h = refl
-short-mark (suc zero) h = refl
-short-mark (suc (suc zero)) h = refl
-short-mark (suc (suc (suc zero))) h = refl
-short-mark (suc (suc (suc (suc n)))) h = absurd (omega arith)
+short-mark kind h = ap length (frame-mark kind h)
 
 pub long-mark : (kind : ℕ) → 4 ≤ kind → kind ≤ 5 → length (markText kind) ≡ 5
-unfolding markText
-long-mark zero h l = absurd (omega arith)
-long-mark (suc zero) h l = absurd (omega arith)
-long-mark (suc (suc zero)) h l = absurd (omega arith)
-long-mark (suc (suc (suc zero))) h l = absurd (omega arith)
-long-mark (suc (suc (suc (suc zero)))) h l = refl
-long-mark (suc (suc (suc (suc (suc zero))))) h l = refl
-long-mark (suc (suc (suc (suc (suc (suc n)))))) h l = absurd (omega arith)
+long-mark kind h l = ⊎-elim (λ p. ap length (warng kind (omega arith))) (λ p. ap length (error kind (omega arith))) (below-or-not kind 5)
 
 pub warning-id : (r : Record) → r .kind ≡ 4 → idText r ≡ hexText Capital 8 0xFFFFFFFF
 unfolding idText

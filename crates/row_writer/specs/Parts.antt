@@ -1,4 +1,5 @@
--- The parts of a row, as the writer's private functions promise them to each other. No public promise cites this file.
+-- The parts of a row, as the writer's functions promise them to each other. `spaced` stands in the promise of `put_pairs` and in the lines of
+-- the export.
 use Prim.Native.Nat.{ℕ, _+_}
 use mathlib.Core.List.{List, [], _∷_, _++_}
 use Rattle.record.specs.declared.Record.{Record}

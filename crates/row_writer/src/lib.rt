@@ -2,7 +2,6 @@
 use base::put_byte;
 use digits::Letters;
 use digits::decimal_length;
-use digits::glyph;
 use digits::put_decimal;
 use digits::put_hex;
 use digits::put_padded;
@@ -12,7 +11,9 @@ ghost use mathlib.Core.List.{[], _∷_};
 ghost use Prim.Native.Nat.{_+_, _*_, _^_, _≤_, _<_};
 ghost use lib.ListN.{length};
 ghost use Rattle.base.specs.Wrote.{Wrote};
-ghost use Rattle.digits.specs.House.{hexText};
+ghost use Rattle.digits.specs.declared.Letters.{Letters};
+ghost use Rattle.digits.specs.declared.Letters.the-variants.{Capital};
+ghost use Rattle.digits.specs.House.{hexText, PairsOf};
 ghost use Rattle.record.specs.Record.{WellFormed};
 ghost use Rattle.row.specs.Answer.{Carries};
 ghost use Rattle.row.specs.House.{joined, numberText, offsetText, busTexts, markText, idText, byteTexts, dataTexts, rowText};
@@ -88,23 +89,21 @@ fn bus_length(version: u64, bus: u64) -> usize
     decimal_length(bus) + 1
 }
 
-// `Rx`, `Tx`, `Warng` or `Error`.
+// `Rx`, `Tx`, `Warng` or `Error`. No branch tells `R`, byte 82, from `T`, byte 84: rows mix the two, and a branch that cannot be
+// predicted is slow.
 fn put_mark(out: &mut [u8], at: usize, kind: u64) -> usize
     requires { ⌜ (kind ≤ 5) × (at + length (32 ∷ markText kind) ≤ length (now out)) ⌝ }
     ensures { λ r. ⌜ Wrote (now (out .entry)) (now (out .exit)) at r (32 ∷ markText kind) ⌝ }
 {
-    match kind {
-        0 | 2 => put_three(out, at, 32, 82, 120),
-        1 | 3 => put_three(out, at, 32, 84, 120),
-        4 => {
-            let p = put_three(out, at, 32, 87, 97);
-            put_three(out, p, 114, 110, 103)
-        }
-        _ => {
-            let q = put_three(out, at, 32, 69, 114);
-            put_three(out, q, 114, 111, 114)
-        }
+    if kind < 4 {
+        return put_three(out, at, 32, 82 + 2 * (kind % 2) as u8, 120);
     }
+    if kind == 4 {
+        let p = put_three(out, at, 32, 87, 97);
+        return put_three(out, p, 114, 110, 103);
+    }
+    let q = put_three(out, at, 32, 69, 114);
+    put_three(out, q, 114, 111, 114)
 }
 
 fn mark_length(kind: u64) -> usize
@@ -145,40 +144,41 @@ fn id_length(r: Record) -> usize
     5
 }
 
-// One data byte. Both digits are put at once: the calls of `put_hex` for each would double the time that a row takes.
-fn put_data_byte(out: &mut [u8], at: usize, b: u64, letters: Letters) -> usize
+// One data byte, from the table of pairs: the calls of `put_hex` for each digit would double the time that a row takes.
+fn put_pair(out: &mut [u8], at: usize, b: u64, pairs: &[u8; 512]) -> usize
     requires { ⌜ (b < 256) × (at + 3 ≤ length (now out)) ⌝ }
-    ensures { λ r. ⌜ Wrote (now (out .entry)) (now (out .exit)) at r (32 ∷ hexText letters 2 b) ⌝ }
+    ensures { λ r. ⌜ ((x : Letters) → PairsOf x (now (pairs .entry)) → Wrote (now (out .entry)) (now (out .exit)) at r (32 ∷ hexText x 2 b)) ⌝ }
+    ensures { λ r. ⌜ r ≡ at + 3 ⌝ }
 {
-    let high = glyph(letters, (b / 16) as u8);
-    let low = glyph(letters, (b % 16) as u8);
-    put_three(out, at, 32, high, low)
+    let i = 2 * b as usize;
+    put_three(out, at, 32, pairs[i], pairs[i + 1])
 }
 
-// The first n of eight data bytes, each behind one blank.
-pub fn put_bytes(out: &mut [u8], at: usize, n: u64, word: u64, letters: Letters) -> usize
+// The first n of eight data bytes, each behind one blank, in the letter case of the table of pairs.
+pub fn put_pairs(out: &mut [u8], at: usize, n: u64, word: u64, pairs: &[u8; 512]) -> usize
     requires { ⌜ (n ≤ 8) × (at + 3 * n ≤ length (now out)) ⌝ }
-    ensures { λ r. ⌜ Wrote (now (out .entry)) (now (out .exit)) at r (spaced (byteTexts letters (256 ^ 7) n word)) ⌝ }
+    ensures { λ r. ⌜ ((x : Letters) → PairsOf x (now (pairs .entry)) → Wrote (now (out .entry)) (now (out .exit)) at r (spaced (byteTexts x (256 ^ 7) n word))) ⌝ }
 {
     let mut p = at;
-    let mut i: u64 = 1;
-    while i <= n {
-        p = put_data_byte(out, p, (word >> (64 - 8 * i)) % 256, letters);
-        i += 1;
+    let mut j: u64 = 1;
+    while j <= n {
+        p = put_pair(out, p, (word >> (64 - 8 * j)) % 256, pairs);
+        j += 1;
     }
     p
 }
 
 // `RTR` for a remote frame, else the bytes.
-fn put_data(out: &mut [u8], at: usize, r: Record) -> usize
+fn put_data(out: &mut [u8], at: usize, r: Record, pairs: &[u8; 512]) -> usize
     requires { ⌜ (r .len ≤ 8) × (at + length (spaced (dataTexts r)) ≤ length (now out)) ⌝ }
+    requires { ⌜ PairsOf Capital (now pairs) ⌝ }
     ensures { λ e. ⌜ Wrote (now (out .entry)) (now (out .exit)) at e (spaced (dataTexts r)) ⌝ }
 {
     if r.kind / 2 == 1 {
         let p = put_byte(out, at, 32);
         return put_three(out, p, 82, 84, 82);
     }
-    put_bytes(out, at, r.len, r.data, Letters::Capital)
+    put_pairs(out, at, r.len, r.data, pairs)
 }
 
 fn data_length(r: Record) -> usize
@@ -202,15 +202,16 @@ fn put_head(out: &mut [u8], at: usize, version: u64, k: u64, r: Record) -> usize
 }
 
 // The fields from the mark on, each behind one blank.
-fn put_frame(out: &mut [u8], at: usize, r: Record) -> usize
+fn put_frame(out: &mut [u8], at: usize, r: Record, pairs: &[u8; 512]) -> usize
     requires { ⌜ WellFormed r × (at + length (spaced (frameTexts r)) ≤ length (now out)) ⌝ }
+    requires { ⌜ PairsOf Capital (now pairs) ⌝ }
     ensures { λ e. ⌜ Wrote (now (out .entry)) (now (out .exit)) at e (spaced (frameTexts r)) ⌝ }
 {
     let p = put_mark(out, at, r.kind);
     let q = put_id(out, p, r);
     let s = put_byte(out, q, 32);
     let t = put_byte(out, s, 48 + r.len as u8);
-    put_data(out, t, r)
+    put_data(out, t, r, pairs)
 }
 
 // How many bytes the row with number k and record r in a version is.
@@ -224,11 +225,19 @@ pub fn row_length(version: u64, k: u64, r: Record) -> usize
 }
 
 // Puts the row with number k and record r in a version at a position, and gives the position after it.
-pub fn put_row(out: &mut [u8], at: usize, version: u64, k: u64, r: Record) -> usize
+pub fn put_row(
+    out: &mut [u8],
+    at: usize,
+    version: u64,
+    k: u64,
+    r: Record,
+    pairs: &[u8; 512],
+) -> usize
     requires { ⌜ WellFormed r × Carries r version × (1 ≤ k) × (k ≤ 999999) ⌝ }
     requires { ⌜ at + length (rowText version k r) ≤ length (now out) ⌝ }
+    requires { ⌜ PairsOf Capital (now pairs) ⌝ }
     ensures { λ e. ⌜ Wrote (now (out .entry)) (now (out .exit)) at e (rowText version k r) ⌝ }
 {
     let p = put_head(out, at, version, k, r);
-    put_frame(out, p, r)
+    put_frame(out, p, r, pairs)
 }

@@ -1,4 +1,5 @@
 // Rows of every kind in both versions, one line a case: the length of the row, then the row with two dots before it and two after it.
+use digits::Letters;
 use libc::STDOUT_FILENO;
 use record::Record;
 ghost use Prim.Native.Nat.{_≤_};
@@ -28,7 +29,8 @@ fn line(version: u64, k: u64, r: Record)
     let size = row_writer::row_length(version, k, r);
     if size <= 250 {
         let mut out = [46u8; 256];
-        let end = row_writer::put_row(&mut out, 2, version, k, r);
+        let pairs = digits::pairs(Letters::Capital);
+        let end = row_writer::put_row(&mut out, 2, version, k, r, &pairs);
         io::print_decimal(STDOUT_FILENO, size as u64);
         text(b" ");
         front(&out, end + 2);

@@ -1,5 +1,5 @@
 -- What a pass that writes keeps: the records that the bytes are, those up to `at` and those ahead.
-use Prim.Native.Nat.{ℕ, _+_, _≤_, _<_}
+use Prim.Native.Nat.{ℕ, _+_, _%_, _≤_, _<_}
 use mathlib.Core.Path.{_≡_, refl, ap, sym, _∙_}
 use mathlib.Core.List.{List, [], _∷_, _++_, append-assoc, append-nil}
 use native.Mathlib.Omega.{arith}
@@ -53,21 +53,13 @@ module _ {s : List ℕ} {at : ℕ} (f : Ahead s at) where
       rest = next .2;
     }
 
-  -- None of them is malformed.
-  pub never-not : at + 20 ≤ length s → ((r : Record) → Packs r (take 20 (drop at s)) → ⊥) → ⊥
-  never-not h n = go (f .after) (f .rest) (f .formed)
-    where
-      go : (rs : List Record) → drop at s ≡ packed rs → Each WellFormed rs → ⊥
-      go [] e w = omega (arith, length-drop at s, ap length e, packed-length [])
-      go (q ∷ qs) e (more x w) = n q (rw (e, first-packed q qs) (packs x))
-
-  -- The record at the place is whole.
+  -- The record at the place is whole, and the place a multiple of twenty.
   pub next-whole : at < length s → at + 20 ≤ length s
-  next-whole h = go (f .after) (f .rest)
-    where
-      go : (rs : List Record) → drop at s ≡ packed rs → at + 20 ≤ length s
-      go [] e = absurd (omega (arith, length-drop at s, ap length e, packed-length []))
-      go (q ∷ qs) e = omega (arith, length-drop at s, ap length e, packed-length (q ∷ qs))
+  next-whole h = omega (arith, length-drop at s, ap length (f .rest), packed-length (f .after))
+
+  pub next-place : at < length s → at % 20 ≡ 0
+  next-place h =
+      omega (arith, length-drop at s, ap length (f .rest), packed-length (f .after), ap length (f .whole .bytes), packed-length (f .before ++ f .after))
 
   -- At the end none is ahead.
   pub none-ahead : length s ≤ at → f .after ≡ []

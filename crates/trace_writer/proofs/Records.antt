@@ -1,18 +1,20 @@
--- The records that bytes are, or the first place where they are none: each is the only one.
-use Prim.Native.Nat.{ℕ}
+-- The records that bytes are, or the first place where they are none: each is the only one. And where a record stands.
+use Prim.Native.Nat.{ℕ, zero, suc, _+_, _*_, _/_, _%_, _<_}
 use mathlib.Core.Path.{_≡_, refl, ap, sym, _∙_}
-use mathlib.Core.List.{List, [], _++_, append-assoc, append-nil}
+use mathlib.Core.List.{List, [], _∷_, _++_, append-assoc, append-nil}
 use native.Mathlib.Omega.{arith}
 use lib.ListN.{length, take, drop, length-append}
-use lib.Seq.{take-at, drop-at}
+use lib.Seq.{take-at, drop-at, drop-drop}
 use Rattle.record.specs.declared.Record.{Record}
 use Rattle.record.specs.Bytes.{bytes}
-use Rattle.record.specs.Record.{number, WellFormed}
+use Rattle.record.specs.Record.{number, WellFormed, PackedAt}
 use Rattle.record.proofs.Bytes.{length-bytes}
 use Rattle.record.proofs.OneRecord.{packs, one-record}
 use Rattle.trace.specs.Promise.{packed}
 use Rattle.trace.specs.House.{Each, none, more}
+use Rattle.trace.proofs.Packing.{packed-length}
 use Rattle.trace_writer.specs.Promise.{Holds, FirstMalformed}
+use Rattle.trace_writer.proofs.Lists.{first-packed, rest-packed}
 
 -- Fronts of one length are one front, and the same stands behind them.
 fronts : (a b c d : List ℕ) → length a ≡ length b → a ++ c ≡ b ++ d → (a ≡ b) × (c ≡ d)
@@ -69,3 +71,23 @@ pub none-malformed : {rs : List Record} {s : List ℕ} {p : ℕ} → Holds rs s 
 none-malformed {rs} h f =
     let z = records-one [] (left f) nothing (no-record f) (h .formed) (f .formed) (append-nil (packed rs) ∙ sym (h .bytes) ∙ f .bytes) in
     omega (arith, ap length (z .1), length-append (f .these) (f .after), f .twenty)
+
+-- The bytes behind the first record.
+behind : (r : Record) (rs : List Record) (at i : ℕ) → at ≡ 20 + i → drop at (packed (r ∷ rs)) ≡ drop i (packed rs)
+behind r rs at i e = ap (λ (n : ℕ). drop n (packed (r ∷ rs))) e ∙ sym (drop-drop i 20 (packed (r ∷ rs))) ∙ ap (drop i) (rest-packed r rs)
+
+-- Every twentieth byte of records is the first of one.
+there : {rs : List Record} (k at : ℕ) → at ≡ 20 * k → k < length rs → Each WellFormed rs → PackedAt (packed rs) at
+there k at e h none = absurd (omega arith)
+there zero at e h (more {r = r} {rs = rs} w ws) =
+    let z : at ≡ 0 = omega arith in
+    record { this = r; packs = rw (z, first-packed r rs) (packs w) }
+there (suc k) at e h (more {r = r} {rs = rs} w ws) =
+    let p = there k (20 * k) refl (omega arith) ws in
+    record { this = p .this; packs = rw (behind r rs at (20 * k) (omega arith)) (p .packs) }
+
+pub packed-there : {rs : List Record} {s : List ℕ} {at : ℕ} → Holds rs s → at % 20 ≡ 0 → at < length s → PackedAt s at
+packed-there {rs} {s} {at} h z l =
+    let e : at ≡ 20 * (at / 20) = omega arith in
+    let k : at / 20 < length rs = omega (arith, packed-length rs, ap length (h .bytes)) in
+    rw (h .bytes) (there (at / 20) at e k (h .formed))

@@ -1,4 +1,4 @@
--- What the passes of the writer promise each other. No public promise cites this file.
+-- What the passes of the writer promise each other. The promise of `write` does not cite this file; that of `record_at` does (`EntryOf`).
 use Prim.Native.Nat.{ℕ, _+_, _≤_}
 use mathlib.Core.Path.{_≡_}
 use mathlib.Core.Logic.{_≢_}

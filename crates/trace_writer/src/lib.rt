@@ -3,11 +3,14 @@ use base::put_byte;
 use base::put_text;
 use clock::START_LIMIT;
 use clock::day_fraction;
+use digits::Letters;
 use digits::decimal_length;
+use digits::pairs;
 use digits::put_decimal;
 use digits::put_padded;
 use record::Record;
 use record::Unpacked;
+use record::packed_at;
 use record::unpack;
 use row_writer::put_row;
 use row_writer::row_length;
@@ -172,7 +175,7 @@ fn measure(version: u64, records: &[u8]) -> Size
     Size::Bytes(size)
 }
 
-// The second pass: the rows are put behind `from`, where there is room. No record is refused any more.
+// The second pass: the rows are put behind `from`, where there is room. No record is judged any more.
 fn put_rows(version: u64, records: &[u8], out: &mut [u8], from: usize)
     requires { ⌜ Fits version (now records) (now out) from ⌝ }
     ensures { λ _. ⌜ RowsPut version (now (records .entry)) (now (out .entry)) (now (out .exit)) from ⌝ }
@@ -180,13 +183,11 @@ fn put_rows(version: u64, records: &[u8], out: &mut [u8], from: usize)
     let mut at = 0;
     let mut k: u64 = 0;
     let mut p = from;
+    let pairs = pairs(Letters::Capital);
     while at < records.len() {
         k += 1;
-        let next = record_at(records, at);
-        let Entry::Is(r) = next else {
-            return;
-        };
-        let q = put_row(out, p, version, k, r);
+        let r = packed_at(records, at);
+        let q = put_row(out, p, version, k, r, &pairs);
         p = put_end(out, q);
         at += 20;
     }

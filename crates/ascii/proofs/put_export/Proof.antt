@@ -10,7 +10,13 @@ pub put-export-spec : {M : Type 1} → statement M
 put-export-spec =
     tie.close (tie.spec
     (λ c κs. search needs)
-    (λ c. left (is-left (c .before .before .before .args .r) (c .before .frame .ensures .0) (c .if1 .taken)) refl refl)
-    (λ c κs. let p = c .before .before .before .before .pre in (p .0 .extended, p .0 .len, p .1 (is-line (c .before .before .before .before .args .r) (c .before .before .frame .ensures .0) (c .before .if1 .left))))
+    (λ c s b. left (is-left (c .before .before .before .args .r) (c .before .frame .ensures .0) (c .if1 .taken)) refl refl)
+    (λ c κs.
+    let a = c .before .before .before .before in
+    let p = a .pre in
+    let k = is-line (a .args .r) (c .before .before .frame .ensures .0) (c .before .if1 .left) in
+    (p .0 .extended, k, p .0 .len, (p .1 .0, p .1 .1 k), p .2))
     (λ c. search needs)
-    (λ c. line (is-line (c .before .before .before .before .before .before .before .args .r) (c .before .before .before .before .before .frame .ensures .0) (c .before .before .before .before .if1 .left)) (c .before .before .put-line .ensures)))
+    (λ c s b.
+    let a = c .before .before .before .before .before .before .before in
+    line (is-line (a .args .r) (c .before .before .before .before .before .frame .ensures .0) (c .before .before .before .before .if1 .left)) (c .before .before .put-line .ensures s b)))

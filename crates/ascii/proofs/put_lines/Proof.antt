@@ -1,45 +1,59 @@
--- `ascii::put_lines` keeps: the lines of the records up to `at` are put.
-use Prim.Native.Nat.{_-_}
+-- `ascii::put_lines` keeps: the lines of the records up to `at` are put, and `head` shows the second `last`.
+use Prim.Native.Nat.{ℕ, _+_, _-_, _/_, _≤_}
+use mathlib.Core.Path.{ap}
 use native.Mathlib.Omega.{arith}
 use borrow.Author.Needs.{needs}
 use lib.ListN.{length}
-use Rattle.clock.specs.Date.{Date}
-use Rattle.trace_writer.proofs.Ahead.{never-not, next-whole}
+use Rattle.clock.proofs.Stamps.{some-stamp}
+use Rattle.trace_writer.proofs.Ahead.{next-whole, next-place}
+use Rattle.trace_writer.proofs.Records.{packed-there}
+use Rattle.ascii.specs.Passes.{Shows}
+use Rattle.ascii.proofs.Keeping.{first-second, shows, begins}
 use Rattle.ascii.proofs.Putting.{Putting, putting, next-room, put-more, lines-put}
 use Rattle.ascii.proofs.put_lines.Statement.{statement}
 use Rattle.ascii.proofs.put_lines.Tie as tie
 
 abbrev Inv-loop : tie.InvT-loop
-Inv-loop start s out₀ at₀ p₀ last₀ out at p last = Putting start s out₀ out at p × Date (last .time .days) (last .date)
+Inv-loop start s out₀ at₀ p₀ last₀ head₀ pairs out at p last head = Putting start s out₀ out at p × Shows head last
 
 abbrev μ-loop : tie.MeasureT-loop
-μ-loop start s out₀ at₀ p₀ last₀ out at p last = length s - at
+μ-loop start s out₀ at₀ p₀ last₀ head₀ pairs out at p last head = length s - at
+
+-- the record that is being put is whole
+whole : (c : tie.After-slice-known2 Inv-loop μ-loop) → c .before .before .before .before .before .before .before .before .before .before .before .loop .at + 20 ≤ length (c .before .before .before .before .before .before .before .before .before .before .before .before .before .before .before .before .before .before .args .records .now)
+whole c = let a = c .before .before .before .before .before .before .before .before .before .before in next-whole (a .before .loop .inv .0 .records) (a .loop-test .taken)
 
 pub put-lines-spec : {M : Type 1} → statement M
 put-lines-spec =
     tie.close
     (tie.spec Inv-loop μ-loop
-    (λ c κs. (c .before .before .pre .1, omega arith))
-    (λ c. (putting (c .before .before .before .pre .0), c .stamp-of .ensures .date))
-    (λ c κs. let h = next-whole (c .before .loop .inv .0 .records) (c .loop-test .taken) in omega arith)
-    (λ c. search needs)
-    (λ c. search needs)
-    (λ c. c .before .before .before .before .loop .inv .0 .same)
+    (λ c κs. (c .before .before .before .pre .1, omega arith))
+    (λ c κs. search needs)
+    (λ c κs. tt)
     (λ c.
-    let l = c .before .before .before .before .loop .inv .0 .records in
-    absurd (never-not l (next-whole l (c .before .before .before .loop-test .taken)) (rw (c .enum-told .given .1) at (c .before .before .record-at .ensures))))
+    let a = c .before .before .before .before .before .before in
+    (putting (a .pre .0), shows (c .before .before .stamp-of .ensures) (c .before .put-second .ensures) (first-second (a .args .start))))
     (λ c κs.
-    let r = rw (c .before .next .given .1) at (c .before .before .before .record-at .ensures) in
-    (c .before .before .before .before .before .loop .inv .1, c .before .before .before .before .before .before .before .before .before .pre .1, omega (arith, r .formed .offset)))
+    let l = c .before .loop .inv .0 .records in
+    let h = next-place l (c .loop-test .taken) in
+    packed-there (l .whole) (omega arith) (omega arith))
+    (λ c κs. (c .before .before .before .before .before .before .before .before .before .pre .1, omega (arith, c .packed-at .ensures .formed .offset)))
     (λ c κs.
-    let r = rw (c .before .before .before .next .given .1) at (c .before .before .before .before .before .record-at .ensures) in
-    (r .formed, λ k. next-room (c .before .before .before .before .before .before .before .loop .inv .0) (c .before .before .before .before .before .before .loop-test .taken) r (c .before .next-stamp .ensures) k))
-    (λ c. let h = next-whole (c .before .before .before .before .before .before .before .before .before .before .loop .inv .0 .records) (c .before .before .before .before .before .before .before .before .before .loop-test .taken) in omega (arith, c .before .before .before .before .before .before .before .before .before .before .before .before .before .before .good))
-    (λ c. let h = next-whole (c .before .before .before .before .before .before .before .before .before .before .loop .inv .0 .records) (c .before .before .before .before .before .before .before .before .before .loop-test .taken) in omega arith)
+    let a = c .before .before in
+    (a .before .before .loop .inv .1, a .before .before .before .before .before .before .before .before .before .pre .1, omega (arith, a .packed-at .ensures .formed .offset), ap (λ (t : ℕ). t / 10000) (c .before .ticks-of .ensures)))
+    (λ c κs.
+    let a = c .before .before .before .before .before .before in
+    let r = a .packed-at .ensures in
+    let z = some-stamp (a .before .before .before .before .before .before .before .before .before .args .start) (a .packed-at .result .offset) in
+    (r .formed, (z .0, λ k. next-room (a .before .before .loop .inv .0) (a .before .loop-test .taken) r (z .1) k), a .before .before .before .pairs .ensures))
+    (λ c. omega (arith, whole c, c .before .before .before .before .before .before .before .before .before .before .before .before .before .before .before .before .before .before .good))
+    (λ c. omega (arith, whole c))
     (λ c.
-    let l = c .before .before .before .before .before .before .before .before .before .before .loop .inv .0 in
-    let r = rw (c .before .before .before .before .before .before .next .given .1) at (c .before .before .before .before .before .before .before .before .record-at .ensures) in
-    let z = c .before .before .before .before .next-stamp .ensures in
-    (put-more l (c .before .before .before .before .before .before .before .before .before .loop-test .taken) r z (c .before .before .put-export .ensures) (omega (arith, l .same)), z .date))
+    let a = c .before .before .before .before .before .before .before .before .before in
+    let l = a .before .before .loop .inv .0 in
+    let z = some-stamp (a .before .before .before .before .before .before .before .before .before .args .start) (a .packed-at .result .offset) in
+    let h = c .before .before .before .before .before .before .renew .ensures in
+    let t = begins (z .1) (c .before .before .before .before .before .before .before .before .ticks-of .ensures) h in
+    (put-more l (a .before .loop-test .taken) (a .packed-at .ensures) (z .1) (c .before .before .put-export .ensures (z .0) t) (omega (arith, l .same)), h))
     (λ c. c .before .loop .inv .0 .same)
     (λ c. lines-put (c .before .loop .inv .0) (c .loop-test .left)))

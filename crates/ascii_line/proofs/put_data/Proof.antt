@@ -2,6 +2,7 @@
 use native.Mathlib.Omega.{arith}
 use borrow.Author.Needs.{needs}
 use Rattle.base.proofs.Lists.{then}
+use Rattle.digits.specs.declared.Letters.the-variants.{Small}
 use Rattle.ascii_line.proofs.Texts.{length-data}
 use Rattle.ascii_line.proofs.put_data.Statement.{statement}
 use Rattle.ascii_line.proofs.put_data.Tie as tie
@@ -18,4 +19,4 @@ put-data-spec =
     (λ c.
     let q = c .before .before .before .before .before .before in
     let p = q .before .before .before .before .before in
-    then (p .put-byte .ensures) (then (q .put-byte2 .ensures) (c .before .before .put-bytes .ensures))))
+    then (p .put-byte .ensures) (then (q .put-byte2 .ensures) (c .before .before .put-pairs .ensures Small (p .before .before .before .pre .2)))))

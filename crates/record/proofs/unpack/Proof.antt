@@ -4,11 +4,12 @@ use mathlib.Core.Path.{_≡_, refl, sym, _∙_, ap}
 use native.Mathlib.Omega.{arith}
 use borrow.Author.Needs.{needs}
 use borrow.Author.Tests.{not-true, not-false}
+use lib.Seq.{take-all}
 use Rattle.record.specs.Bytes.{bytes}
 use Rattle.record.specs.Promise.{UnpackPromise}
 use Rattle.base.proofs.Tests.{shown, refuted}
-use Rattle.record.proofs.Words.{Widths, read-words, words-lt}
-use Rattle.record.proofs.OneRecord.{not-spare, only}
+use Rattle.record.proofs.Words.{widths-of, read-words, words-lt}
+use Rattle.record.proofs.OneRecord.{spare, only}
 use Rattle.record.proofs.unpack.Statement.{statement}
 use Rattle.record.proofs.unpack.Tie as tie
 
@@ -20,8 +21,10 @@ words-are c =
     let h = c .before .before .get4 in
     let m = c .before .get8 in
     let l = c .get82 in
-    read-words (c .before .before .before .before .before .args .s .now) (h .result) (m .result) (l .result)
-    (omega arith) (m .ensures .0) (l .ensures .0) (h .ensures .1) (m .ensures .1) (l .ensures .1)
+    let s = c .before .before .before .before .before .args .s .now in
+    sym (take-all 20 s (omega arith))
+    ∙ read-words s 0 (h .result) (m .result) (l .result) (omega arith) (m .ensures .0) (l .ensures .0) (h .ensures .1) (m .ensures .1)
+    (l .ensures .1)
 
 words-below : (c : tie.After-get82) → words c < 256 ^ 20
 words-below c =
@@ -40,16 +43,14 @@ unpack-spec =
     (λ c.
     let g = c .before in
     UnpackPromise.malformed (omega arith)
-    (λ t p. not-spare _ (g .get82 .result) (words-below g) (words-are g) (λ z. c .if2 .taken (omega arith)) p) refl)
+    (λ t p. c .if2 .taken (omega (arith, spare _ (g .get82 .result) (words-below g) (words-are g) p))) refl)
     (λ c κs. search needs)
     (λ c κs. search needs)
     (λ c.
     let w = c .before .well-formed in
     let r = c .before .before .record-of in
     let g = c .before .before .before .before in
-    let f = r .ensures .1 in
-    let b : Widths (r .result) =
-    record { offset = f .0; bus = f .1; kind = f .2; extended = f .3; id = f .4; len = f .5; «data» = f .6 } in
+    let b = widths-of (r .ensures .1) in
     let n = refuted (w .result) (not-true _ (c .if3 .taken)) (w .ensures) in
     UnpackPromise.malformed (omega arith)
     (λ t p. n (rw (only (words-below g) (words-are g) b (r .ensures .0) p) at (p .formed))) refl)

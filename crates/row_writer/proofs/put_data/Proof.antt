@@ -29,4 +29,4 @@ put-data-spec =
     (λ c.
     let t = c .before .before .before .before in
     let e = frame-data (t .before .before .before .args .r) (t .if1 .left) in
-    rw e (c .before .before .put-bytes .ensures)))
+    rw e (c .before .before .put-pairs .ensures Capital (t .before .before .before .pre .1))))

@@ -15,7 +15,9 @@ put-frame-spec =
     (λ c. search needs)
     (λ c. search needs)
     (λ c κs. omega (arith, frame-length (c .before .before .before .before .before .before .before .before .before .before .before .before .before .before .before .args .r)))
-    (λ c κs. let q = c .before .before .before .before .before .before .before .before .before .before .before .before in omega (arith, frame-length (q .before .before .before .before .before .before .before .args .r)))
+    (λ c κs.
+    let q = c .before .before .before .before .before .before .before .before .before .before .before .before in
+    (omega (arith, frame-length (q .before .before .before .before .before .before .before .args .r)), q .before .before .before .before .before .before .before .pre .1))
     (λ c. search needs)
     (λ c.
     let t = c .before .before .before .before .before .before in

@@ -13,7 +13,7 @@ put-row-spec =
     (λ c κs.
     let s = c .before .before .before .before .before .before in
     let a = s .args in
-    (s .pre .0 .0, omega (arith, row-length (a .version) (a .k) (a .r))))
+    ((s .pre .0 .0, omega (arith, row-length (a .version) (a .k) (a .r))), s .pre .1 .1))
     (λ c. search needs)
     (λ c.
     let p = c .before .before .before .before .before .before in

@@ -25,7 +25,7 @@ measure-spec =
     (tie.spec Inv-loop μ-loop
     (λ c. measuring _ _)
     (λ c. let m = one-more (c .before .loop .inv .judged) (c .before .before .before .pre) (c .loop-test .taken) .1 in omega arith)
-    (λ c κs. one-more (c .before .loop .inv .judged) (c .before .before .before .pre) (c .loop-test .taken) .0)
+    (λ c κs. let h = one-more (c .before .loop .inv .judged) (c .before .before .before .pre) (c .loop-test .taken) .0 in omega arith)
     (λ c. search needs)
     (λ c. search needs)
     (λ c.
