@@ -1,4 +1,5 @@
--- The stages of the row reader: what its private functions promise each other. No public promise cites this file.
+-- The stages of the row reader: what its functions promise each other. Of the crate's public promises only that of `row_in` cites this file
+-- (`RowFound`).
 use Prim.Native.Nat.{ℕ, suc, _+_, _*_, _-_, _/_, _^_, _≤_}
 use mathlib.Core.Path.{_≡_}
 use mathlib.Core.Logic.{_≢_}

@@ -14,3 +14,4 @@ pub mod Pieces
 pub mod Place
 pub mod Rows
 pub mod There
+pub mod Unended
