@@ -1,4 +1,5 @@
 // The bench program: one trace from standard input, its ASCII export or its refusal to standard output.
+use libc::STDERR_FILENO;
 use libc::STDIN_FILENO;
 use libc::STDOUT_FILENO;
 ghost use Prim.Native.Nat.{_≤_};
@@ -31,11 +32,21 @@ fn print(page: &[u8], n: usize)
     io::write_all(STDOUT_FILENO, &page[0..n]);
 }
 
+// Whether standard input can't be read, as one that fails before its end. At its end a read gives 0.
+fn failed() -> bool {
+    let mut more = [0u8; 1];
+    libc::read(STDIN_FILENO, &mut more) < 0
+}
+
 fn main() {
     let mut input = input_space();
     let mut records = records_space();
     let mut page = page_space();
     let got = io::read_full(STDIN_FILENO, &mut input);
+    if failed() {
+        io::write_all(STDERR_FILENO, b"bushingowl: standard input can't be read\n");
+        return;
+    }
     let n = convert::printed(&input[..got], &mut records, &mut page);
     print(&page, n);
 }

@@ -60,6 +60,7 @@ pub fn printed(input: &[u8], records: &mut [u8], page: &mut [u8]) -> usize
     requires { ⌜ (recordsRoom ≤ length (now records)) × (pageRoom ≤ length (now page)) ⌝ }
     ensures { λ n. ⌜ Prints (now (input .entry)) (take n (now (page .exit))) ⌝ }
     ensures { λ n. ⌜ n ≤ length (now (page .exit)) ⌝ }
+    ensures { λ n. ⌜ ConvertPromise (now (input .entry)) (length (now (records .entry))) (now (page .entry)) n (now (page .exit)) ⌝ }
 {
     convert(input, records, page)
 }

@@ -14,4 +14,4 @@ printed-spec =
     (λ c.
     let p = c .before .before .before .before .convert .ensures in
     let e = c .before .before .before .before .before .before .before .before .before .before .pre in
-    (prints (e .0) (e .1) p, within p)))
+    (prints (e .0) (e .1) p, (within p, p))))
