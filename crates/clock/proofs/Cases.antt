@@ -1,10 +1,9 @@
--- Worked cases of the paper that concern time.
+-- The cases marked P that concern time; papers has them in its table.
 use Prim.Native.Nat.{ℕ, _+_, _*_, _<_}
 use mathlib.Core.Path.{_≡_, refl}
 use native.Mathlib.Omega.{arith}
 use Rattle.clock.specs.Start.{dayMs, startLimit, Start}
 use Rattle.clock.specs.Date.{leap, monthDays, before, beforeYear, Date}
-use Rattle.clock.specs.Stamp.{Stamp}
 use Rattle.clock.proofs.Dates.{made}
 
 -- Day 0.0 starts at 0.
@@ -23,38 +22,7 @@ day-39878 = record { low = omega arith; high = omega arith }
 pub past-limit : (ms : ℕ) → Start 99999 9999999999 10 ms → startLimit < ms
 past-limit ms a = omega arith
 
--- The start of the small trace, 36585.5.
-pub day-36585 : Start 36585 5 1 3160987200000
-day-36585 = record { low = omega arith; high = omega arith }
-
 -- Day 36585 is 29.02.2000.
 pub leap-day : Date 36585 (record { day = 29; month = 2; year = 2000 })
 unfolding leap monthDays before beforeYear
 leap-day = made 36585 2000 59 1 1 28 (omega arith) refl refl (omega arith) refl (omega arith)
-
--- Day 25569 is 1 January 1970.
-pub day-25569 : Date 25569 (record { day = 1; month = 1; year = 1970 })
-unfolding leap monthDays before beforeYear
-day-25569 = made 25569 1970 0 0 0 0 (omega arith) refl refl (omega arith) refl (omega arith)
-
--- 1900 and 2100 are common years.
-pub common : (leap 1900 ≡ 0) × (leap 2100 ≡ 0)
-unfolding leap
-common = (refl, refl)
-
--- The stamp of the second record of the small trace: 250 microseconds are cut to two parts.
-pub second-stamp : Stamp 3160987200000 1500250 (record {
-  date = record { day = 29; month = 2; year = 2000 };
-  time = record { days = 36585; hour = 12; minute = 0; second = 1; part = 5002 };
-})
-second-stamp = record {
-  time = record {
-    low = omega arith;
-    high = omega arith;
-    hour = omega arith;
-    minute = omega arith;
-    second = omega arith;
-    part = omega arith;
-  };
-  date = leap-day;
-}

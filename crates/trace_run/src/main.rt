@@ -165,7 +165,7 @@ fn starts() {
     case(b"day 0", b";$FILEVERSION=1.2\r\n;$STARTTIME=0.0\r\n");
     case(
         b"leading zero",
-        b";$FILEVERSION=1.2\r\n;$STARTTIME=036585.5\r\n",
+        b";$FILEVERSION=1.2\r\n;$STARTTIME=06585.5\r\n",
     );
     case(
         b"six day digits",
