@@ -3,8 +3,8 @@
 use ascii::Exported;
 use ascii::export;
 use record::Packed;
-use record::Record;
 use record::Unpacked;
+use record::of_fields;
 use record::pack;
 use record::unpack;
 use trace::Outcome;
@@ -12,10 +12,10 @@ use trace::read;
 use trace_writer::Written;
 use trace_writer::write;
 ghost use Rattle.record.specs.Promise.{PackPromise, UnpackPromise};
+ghost use Rattle.record.specs.Record.{recordOf};
 ghost use Rattle.trace.specs.Promise.{ReadPromise};
 ghost use Rattle.trace_writer.specs.Promise.{WritePromise};
 ghost use Rattle.ascii.specs.Promise.{ExportPromise};
-ghost use Rattle.capi.specs.Fields.{recordOf};
 
 // Number, place, version (11 or 12), start, rows, first step back.
 #[no_mangle]
@@ -94,16 +94,7 @@ pub extern "C" fn bo_unpack(bytes: &[u8], answer: &mut [u64; 9])
 pub extern "C" fn bo_pack(fields: &[u64; 7], out: &mut [u8], answer: &mut [u64; 2])
     ensures { λ _. ⌜ PackPromise (recordOf (now (fields .entry))) (now (out .entry)) (now (answer .exit)) (now (out .exit)) ⌝ }
 {
-    let r = Record {
-        offset: fields[0],
-        bus: fields[1],
-        kind: fields[2],
-        extended: fields[3],
-        id: fields[4],
-        len: fields[5],
-        data: fields[6],
-    };
-    let a = pack(r, out);
+    let a = pack(of_fields(fields), out);
     match a {
         Packed::Done => {
             *answer = [0, 0];

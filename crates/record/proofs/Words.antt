@@ -123,7 +123,7 @@ slice-behind : (at n : ℕ) (s : List ℕ) → at ≤ length s → slice at (at 
 slice-behind at n s h = rw (take-add at n s) (drop-at (take at s) (take n (drop at s)) at (length-take-le at s h))
 
 -- The twenty bytes at a place are the bytes of their three words.
-pub read-words : (s : List ℕ) (at h m l : ℕ) → at + 20 ≤ length s → m < 256 ^ 8 → l < 256 ^ 8
+read-words : (s : List ℕ) (at h m l : ℕ) → at + 20 ≤ length s → m < 256 ^ 8 → l < 256 ^ 8
     → slice at (at + 4) s ≡ bytes 4 h → slice (at + 4) (at + 4 + 8) s ≡ bytes 8 m → slice (at + 12) (at + 12 + 8) s ≡ bytes 8 l
     → take 20 (drop at s) ≡ bytes 20 ((h * 256 ^ 8 + m) * 256 ^ 8 + l)
 read-words s at h m l e pm pl p q r =
@@ -131,8 +131,14 @@ read-words s at h m l e pm pl p q r =
     sym (slice-behind at 20 s (omega arith))
     ∙ read-join 12 8 s at (at + 12) (at + 20) (h * 256 ^ 8 + m) l refl (omega arith) e pl f r
 
-pub words-lt : (h m l : ℕ) → h < 256 ^ 4 → m < 256 ^ 8 → l < 256 ^ 8 → (h * 256 ^ 8 + m) * 256 ^ 8 + l < 256 ^ 20
-words-lt h m l p q r = digits-lt (digits-lt p q) r
+-- Three words, read from twenty bytes at a position.
+pub record Words (s : List ℕ) (at h m l : ℕ) : Type 0 where
+  pub are : take 20 (drop at s) ≡ bytes 20 ((h * 256 ^ 8 + m) * 256 ^ 8 + l)
+  pub below : (h * 256 ^ 8 + m) * 256 ^ 8 + l < 256 ^ 20
+
+pub three-words : (s : List ℕ) (at h m l : ℕ) → at + 20 ≤ length s → (h < 256 ^ 4) × (slice at (at + 4) s ≡ bytes 4 h)
+    → (m < 256 ^ 8) × (slice (at + 4) (at + 4 + 8) s ≡ bytes 8 m) → (l < 256 ^ 8) × (slice (at + 12) (at + 12 + 8) s ≡ bytes 8 l) → Words s at h m l
+three-words s at h m l e p q r = record { are = read-words s at h m l e (q .0) (r .0) (p .1) (q .1) (r .1); below = digits-lt (digits-lt (p .0) (q .0)) (r .0) }
 
 two : (r : Record) (h x : ℕ) → after r (h * 2 ^ 16 + x) ≡ h * 2 ^ 58 + after r x
 two r h x = omega arith

@@ -3,9 +3,22 @@ use Prim.Native.Nat.{ℕ, _+_, _*_, _-_, _/_, _%_, _^_, _≤_, _<_}
 use mathlib.Core.Path.{_≡_}
 use mathlib.Core.Logic.{_⊎_}
 use mathlib.Core.List.{List}
-use lib.ListN.{take, drop}
+use lib.ListN.{take, drop, getD}
 use Rattle.record.specs.declared.Record.{Record}
 use Rattle.record.specs.Bytes.{bytes}
+
+-- The record with these fields: offset, bus, kind, extended, ID, length, data.
+abbrev pub recordOf : List ℕ → Record
+recordOf fields =
+    record {
+      offset = getD fields 0 0;
+      bus = getD fields 1 0;
+      kind = getD fields 2 0;
+      extended = getD fields 3 0;
+      id = getD fields 4 0;
+      len = getD fields 5 0;
+      «data» = getD fields 6 0;
+    }
 
 -- The largest offset, in microseconds: eleven digits of milliseconds and three of their fraction.
 abbrev pub offsetLimit : ℕ

@@ -7,7 +7,7 @@ ghost use lib.ListN.{length, take, drop};
 ghost use lib.Seq.{slice, sets};
 ghost use Rattle.base.specs.Decides.{Decides};
 ghost use Rattle.record.specs.Bytes.{bytes};
-ghost use Rattle.record.specs.Record.{number, ErrorId, Position, Warning, ErrorFrame, WellFormed, Packs, PackedAt};
+ghost use Rattle.record.specs.Record.{recordOf, number, ErrorId, Position, Warning, ErrorFrame, WellFormed, Packs, PackedAt};
 ghost use Rattle.record.specs.Promise.{packNumbers, unpackNumbers, PackPromise, UnpackPromise};
 
 // The fields of a record, each wide enough to hold a wrong value. `data` is the eight data bytes, the first most
@@ -34,6 +34,21 @@ pub enum Unpacked {
     Fields(Record),
     NotTwenty,
     Malformed,
+}
+
+// The record with these fields, in this order.
+pub fn of_fields(fields: &[u64; 7]) -> Record
+    ensures { λ r. ⌜ r ≡ recordOf (now (fields .entry)) ⌝ }
+{
+    Record {
+        offset: fields[0],
+        bus: fields[1],
+        kind: fields[2],
+        extended: fields[3],
+        id: fields[4],
+        len: fields[5],
+        data: fields[6],
+    }
 }
 
 // Eleven digits of milliseconds and three of their fraction.
@@ -153,6 +168,10 @@ pub fn well_formed(r: Record) -> bool
     }
     if !past(r.data, r.len) {
         return false;
+    }
+    // Of data frames no more is asked, and most records are such.
+    if r.kind < 2 {
+        return true;
     }
     as_kind(r)
 }

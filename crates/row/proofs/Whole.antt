@@ -11,7 +11,7 @@ use lib.Seq.{take-suc, take-length, drop-cons, set-at, append-snoc, length-take-
 use Rattle.fields.specs.Runs.{All, empty, more}
 use Rattle.fields.specs.Window.{NoEnd, LineOf}
 use Rattle.record.specs.declared.Record.{Record}
-use Rattle.row.specs.Answer.{recordOf}
+use Rattle.record.specs.Record.{recordOf}
 use Rattle.row.specs.Row.{Row}
 use Rattle.row.specs.Stages.{RowFound, row-found, no-row}
 use Rattle.row.proofs.Plain.{row-plain}

@@ -2,7 +2,7 @@
 use Prim.Native.Nat.{ℕ, _%_, _≤_}
 use mathlib.Core.Path.{_≡_}
 use mathlib.Core.List.{List}
-use lib.ListN.{length, getD}
+use lib.ListN.{length}
 use Rattle.record.specs.declared.Record.{Record}
 use Rattle.row.specs.declared.Reading.{Reading}
 use Rattle.row.specs.declared.Reading.the-variants.{Is, Not}
@@ -11,19 +11,6 @@ use Rattle.row.specs.Row.{Row}
 -- The most bytes before the end of a line.
 abbrev pub lineLimit : ℕ
 lineLimit = 250
-
--- The record with these fields: offset, bus, kind, extended, ID, length, data.
-abbrev pub recordOf : List ℕ → Record
-recordOf l =
-    record {
-      offset = getD l 0 0;
-      bus = getD l 1 0;
-      kind = getD l 2 0;
-      extended = getD l 3 0;
-      id = getD l 4 0;
-      len = getD l 5 0;
-      «data» = getD l 6 0;
-    }
 
 -- The record, exactly if the line has at most 250 bytes and is the row of it; else none is.
 abbrev pub ReadsRow : ℕ → ℕ → List ℕ → Reading → Type 0

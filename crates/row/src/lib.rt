@@ -3,7 +3,6 @@ mod reader;
 mod stages;
 
 pub use reader::read_row;
-pub use reader::record_of;
 pub use reader::row_in;
 pub use reader::window;
 use record::Record;

@@ -6,23 +6,31 @@ use crate::Stage;
 use crate::stages::complete;
 use crate::stages::take_field;
 use record::Record;
+use record::of_fields;
 ghost use mathlib.Core.Path.{_≡_};
 ghost use mathlib.Core.List.{List, [], _∷_, _++_};
 ghost use Prim.Native.Nat.{ℕ, _+_, _<_};
 ghost use lib.ListN.{length, getD, drop};
 ghost use Rattle.base.specs.Decides.{Decides};
 ghost use Rattle.fields.specs.Window.{LineOf, Lined, Starts};
-ghost use Rattle.row.specs.Answer.{recordOf, ReadsRow};
+ghost use Rattle.row.specs.Answer.{ReadsRow};
 ghost use Rattle.row.specs.Stages.{Skipped, Finds, RowFound, part, Good};
 
-// The place behind the blanks.
+// The place behind the blanks. Most gaps are one blank: they are passed before the loop.
 fn skip(w: &[u8; 256], at: usize) -> usize
     requires { ⌜ Lined (drop at (now w)) ⌝ }
     ensures { λ a. ⌜ Skipped (now (w .entry)) at a ⌝ }
     ensures { λ a. ⌜ a < 256 ⌝ }
 {
     let bytes: &[u8] = w;
-    let mut a = at;
+    if bytes[at] != 32 {
+        return at;
+    }
+    let mut a = at + 1;
+    if bytes[a] != 32 {
+        return a;
+    }
+    a += 1;
     while bytes[a] == 32 {
         a += 1;
     }
@@ -190,21 +198,6 @@ pub fn row_in(w: &[u8; 256], version: u64, k: u64, out: &mut [u64; 7]) -> usize
     }
 }
 
-// The record whose fields `row_in` has put.
-pub fn record_of(fields: &[u64; 7]) -> Record
-    ensures { λ r. ⌜ r ≡ recordOf (now (fields .entry)) ⌝ }
-{
-    Record {
-        offset: fields[0],
-        bus: fields[1],
-        kind: fields[2],
-        extended: fields[3],
-        id: fields[4],
-        len: fields[5],
-        data: fields[6],
-    }
-}
-
 // Puts bytes at the front of a window, and CR behind them.
 pub fn window(s: &[u8], w: &mut [u8; 256])
     requires { ⌜ length (now s) < 256 ⌝ }
@@ -235,5 +228,5 @@ pub fn read_row(line: &[u8], version: u64, k: u64) -> Reading
     if e != n + 1 {
         return Reading::Not;
     }
-    Reading::Is(record_of(&out))
+    Reading::Is(of_fields(&out))
 }

@@ -12,7 +12,7 @@ use Rattle.fields.specs.Window.{LineOf, Lined}
 use Rattle.fields.proofs.Runs.{all-map}
 use Rattle.record.specs.declared.Record.{Record}
 use Rattle.record.specs.Promise.{fieldsOf}
-use Rattle.row.specs.Answer.{recordOf}
+use Rattle.record.specs.Record.{recordOf}
 use Rattle.row.specs.Row.{Row}
 use Rattle.row.specs.Stages.{RowFound, row-found, no-row}
 use Rattle.row.proofs.Plain.{row-plain}

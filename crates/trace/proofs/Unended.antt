@@ -51,32 +51,22 @@ unended (b ∷ s) f = go (ℕ-discrete b 10) (ℕ-discrete b 13) (λ g. unended 
         let i : Inside b = record { cr = m; lf = n } in
         longer b i (u (λ l a x. f (b ∷ l) a (record { inside = more i (x .inside); ended = ap (λ (z : List ℕ). b ∷ z) (x .ended) })))
 
+-- What short lines follow each other in starts with an ended line, if there is a byte in it.
+some-line : (l : List ℕ) (b : ℕ) (other : List ℕ) → ((line after : List ℕ) → FirstLine line after (l ++ (b ∷ other)) → ⊥) → Shorts (l ++ (b ∷ other)) → ⊥
+some-line l b other f h = go h refl
+  where
+    filled : (l : List ℕ) → [] ≡ l ++ (b ∷ other) → ⊥
+    filled [] q = let z : _≡_ {A = ℕ} 0 1 = cc in omega arith
+    filled (x ∷ l) q = let z : _≡_ {A = ℕ} 0 1 = cc in omega arith
+
+    go : {t : List ℕ} → Shorts t → t ≡ l ++ (b ∷ other) → ⊥
+    go no-more q = filled l q
+    go (one-more x r) q = f _ _ (rw q at (x .first))
+
 -- Nothing spelled has a line with a wrong end, whatever stands behind it.
 no-shorts : {s : List ℕ} (other : List ℕ) → Stray s → Shorts (s ++ other) → ⊥
-no-shorts other (feed {line = l} a e) h = go (rw (e, append-assoc) at h)
-  where
-    go : Shorts (l ++ (10 ∷ other)) → ⊥
-    go h = none h refl
-      where
-        none : {t : List ℕ} → Shorts t → t ≡ l ++ (10 ∷ other) → ⊥
-        none no-more q = empty-not l q
-          where
-            empty-not : (l : List ℕ) → [] ≡ l ++ (10 ∷ other) → ⊥
-            empty-not [] q = let z : _≡_ {A = ℕ} 0 1 = cc in omega arith
-            empty-not (x ∷ l) q = let z : _≡_ {A = ℕ} 0 1 = cc in omega arith
-        none (one-more x r) q = feed-alone other a (rw q at (x .first))
-no-shorts other (return {line = l} {b = b} a n e) h = go (rw (e, append-assoc) at h)
-  where
-    go : Shorts (l ++ (13 ∷ b ∷ other)) → ⊥
-    go h = none h refl
-      where
-        none : {t : List ℕ} → Shorts t → t ≡ l ++ (13 ∷ b ∷ other) → ⊥
-        none no-more q = empty-not l q
-          where
-            empty-not : (l : List ℕ) → [] ≡ l ++ (13 ∷ b ∷ other) → ⊥
-            empty-not [] q = let z : _≡_ {A = ℕ} 0 1 = cc in omega arith
-            empty-not (x ∷ l) q = let z : _≡_ {A = ℕ} 0 1 = cc in omega arith
-        none (one-more x r) q = return-alone other a n (rw q at (x .first))
+no-shorts other (feed {line = l} a e) h = some-line l 10 other (λ line after x. feed-alone other a x) (rw (e, append-assoc) at h)
+no-shorts other (return {line = l} {b = b} a n e) h = some-line l 13 (b ∷ other) (λ line after x. return-alone other a n x) (rw (e, append-assoc) at h)
 
 pub never-stray : {n : ℕ} {front s : List ℕ} → Lines n front → Stray s → (other : List ℕ) (t : Trace) → Spells t (front ++ (s ++ other)) → ⊥
 never-stray {s = s} ls w other t a = no-shorts other w (shorts-after (s ++ other) ls refl (spells-shorts a))

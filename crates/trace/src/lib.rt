@@ -2,8 +2,8 @@
 use lines::Ending;
 use lines::Remark;
 use lines::StartTime;
+use record::of_fields;
 use record::put_record;
-use row::record_of;
 use row::row_in;
 use row::window;
 ghost use mathlib.Core.Path.{_≡_};
@@ -251,7 +251,7 @@ fn fill(text: &[u8], from: usize, version: u64, start: u64, out: &mut [u8])
                 }
             }
         } else {
-            put_record(out, o, record_of(&fields));
+            put_record(out, o, of_fields(&fields));
             done += 1;
             o += 20;
             at = next;

@@ -1,5 +1,5 @@
 -- `record::unpack` meets its contract.
-use Prim.Native.Nat.{ℕ, _+_, _*_, _^_, _<_}
+use Prim.Native.Nat.{_+_, _*_, _^_}
 use mathlib.Core.Path.{_≡_, refl, sym, _∙_, ap}
 use native.Mathlib.Omega.{arith}
 use borrow.Author.Needs.{needs}
@@ -8,30 +8,17 @@ use lib.Seq.{take-all}
 use Rattle.record.specs.Bytes.{bytes}
 use Rattle.record.specs.Promise.{UnpackPromise}
 use Rattle.base.proofs.Tests.{shown, refuted}
-use Rattle.record.proofs.Words.{widths-of, read-words, words-lt}
+use Rattle.record.proofs.Words.{widths-of, Words, three-words}
 use Rattle.record.proofs.OneRecord.{spare, only}
 use Rattle.record.proofs.unpack.Statement.{statement}
 use Rattle.record.proofs.unpack.Tie as tie
 
-abbrev words : tie.After-get82 → ℕ
-words c = (c .before .before .get4 .result * 256 ^ 8 + c .before .get8 .result) * 256 ^ 8 + c .get82 .result
+words : (c : tie.After-get82) → Words (c .before .before .before .before .before .args .s .now) 0 (c .before .before .get4 .result) (c .before .get8 .result) (c .get82 .result)
+words c = three-words (c .before .before .before .before .before .args .s .now) 0 _ _ _ (omega arith) (c .before .before .get4 .ensures) (c .before .get8 .ensures) (c .get82 .ensures)
 
-words-are : (c : tie.After-get82) → c .before .before .before .before .before .args .s .now ≡ bytes 20 (words c)
-words-are c =
-    let h = c .before .before .get4 in
-    let m = c .before .get8 in
-    let l = c .get82 in
-    let s = c .before .before .before .before .before .args .s .now in
-    sym (take-all 20 s (omega arith))
-    ∙ read-words s 0 (h .result) (m .result) (l .result) (omega arith) (m .ensures .0) (l .ensures .0) (h .ensures .1) (m .ensures .1)
-    (l .ensures .1)
-
-words-below : (c : tie.After-get82) → words c < 256 ^ 20
-words-below c =
-    let h = c .before .before .get4 in
-    let m = c .before .get8 in
-    let l = c .get82 in
-    words-lt (h .result) (m .result) (l .result) (h .ensures .0) (m .ensures .0) (l .ensures .0)
+words-are : (c : tie.After-get82)
+    → c .before .before .before .before .before .args .s .now ≡ bytes 20 ((c .before .before .get4 .result * 256 ^ 8 + c .before .get8 .result) * 256 ^ 8 + c .get82 .result)
+words-are c = sym (take-all 20 (c .before .before .before .before .before .args .s .now) (omega arith)) ∙ words c .are
 
 pub unpack-spec : {M : Type 1} → statement M
 unpack-spec =
@@ -43,7 +30,7 @@ unpack-spec =
     (λ c.
     let g = c .before in
     UnpackPromise.malformed (omega arith)
-    (λ t p. c .if2 .taken (omega (arith, spare _ (g .get82 .result) (words-below g) (words-are g) p))) refl)
+    (λ t p. c .if2 .taken (omega (arith, spare _ (g .get82 .result) (words g .below) (words-are g) p))) refl)
     (λ c κs. search needs)
     (λ c κs. search needs)
     (λ c.
@@ -53,7 +40,7 @@ unpack-spec =
     let b = widths-of (r .ensures .1) in
     let n = refuted (w .result) (not-true _ (c .if3 .taken)) (w .ensures) in
     UnpackPromise.malformed (omega arith)
-    (λ t p. n (rw (only (words-below g) (words-are g) b (r .ensures .0) p) at (p .formed))) refl)
+    (λ t p. n (rw (only (words g .below) (words-are g) b (r .ensures .0) p) at (p .formed))) refl)
     (λ c.
     let w = c .before .well-formed in
     let r = c .before .before .record-of in

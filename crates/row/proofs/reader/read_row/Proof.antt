@@ -15,4 +15,4 @@ read-row-spec =
     (λ c. search needs)
     (λ c r h w. not-read _ (λ line l. c .before .row-in .ensures line (rw (c .before .before .before .before .window .ensures) l)) (c .if2 .taken) r w)
     (λ c κs. search needs)
-    (λ c. (omega arith, rw (c .record-of .ensures) (is-read _ (λ line l. c .before .before .before .row-in .ensures line (rw (c .before .before .before .before .before .before .window .ensures) l)) (c .before .before .if2 .left)))))
+    (λ c. (omega arith, rw (c .of-fields .ensures) (is-read _ (λ line l. c .before .before .before .row-in .ensures line (rw (c .before .before .before .before .before .before .window .ensures) l)) (c .before .before .if2 .left)))))
