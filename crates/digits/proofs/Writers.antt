@@ -1,12 +1,14 @@
--- What the writers' loops keep: they put a number in a fixed width from the last digit to the first, in any base.
-use Prim.Native.Nat.{ℕ, suc, _+_, _/_, _%_, _<_}
+-- What the writers' loops keep: they put a number in a fixed width from the last digit to the first, in any base. And what a writer leaves
+-- at the start.
+use Prim.Native.Nat.{ℕ, suc, _+_, _/_, _%_, _≤_, _<_}
 use mathlib.Core.Path.{_≡_, refl, ap, sym, _∙_}
 use mathlib.Core.List.{List, [], _∷_, _++_, append-nil, append-assoc}
 use native.Mathlib.Nat.{add-zero, add-suc}
 use native.Mathlib.Omega.{arith}
-use lib.ListN.{set}
-use lib.Seq.{sets, set-comm}
+use lib.ListN.{length, take, drop, set}
+use lib.Seq.{sets, set-comm, take-at}
 use Rattle.base.specs.Wrote.{Wrote}
+use Rattle.base.proofs.Lists.{at-start}
 use Rattle.digits.specs.House.{fixed}
 use Rattle.digits.proofs.House.{fixed-zero, fixed-step, length-fixed}
 
@@ -41,3 +43,7 @@ module _ (g : ℕ → ℕ) (b : ℕ) where
   put-all {w} {n} {at} e p =
       let t : fixed g b w n ≡ p .last = rw (e, fixed-zero) at (p .text) in
       record { next = rw length-fixed; stored = rw (t, ← add-zero at) (rw e at (p .stored)) }
+
+-- Bytes put at the start are the first.
+pub put-first : {old new t : List ℕ} {e : ℕ} → Wrote old new 0 e t → length t ≤ length old → take e new ≡ t
+put-first {old} {t = t} {e = e} w h = ap (take e) (at-start w h) ∙ take-at t (drop (length t) old) e (omega (arith, w .next))

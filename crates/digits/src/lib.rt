@@ -1,8 +1,9 @@
 // Numbers as digit strings: read from bytes, and written as the house spells them.
+use base::put_text;
 use base::wide;
 ghost use mathlib.Core.Path.{_≡_};
-ghost use Prim.Native.Nat.{_+_, _≤_, _<_};
-ghost use lib.ListN.{length};
+ghost use Prim.Native.Nat.{_+_, _/_, _^_, _≤_, _<_};
+ghost use lib.ListN.{length, take};
 ghost use Rattle.base.specs.Decides.{Decides};
 ghost use Rattle.base.specs.Wrote.{Wrote};
 ghost use Rattle.digits.specs.Answer.{Answers, DigitOr255, ReadDecimal, ReadPadded, ReadHex};
@@ -183,6 +184,33 @@ pub fn put_padded(out: &mut [u8], at: usize, w: usize, n: u64) -> usize
         m /= 10;
     }
     at + w
+}
+
+// Puts n in decimal at a position, where the digits before its last w are at hand as `head`, and gives the position after it: a number
+// that changes little from row to row is not divided again. `unit` is 10 ^ w.
+pub fn put_behind(out: &mut [u8], at: usize, n: u64, w: usize, unit: u64, head: &[u8]) -> usize
+    requires { ⌜ (unit ≡ 10 ^ w) × (now head ≡ decimalText (n / unit)) ⌝ }
+    requires { ⌜ at + length (decimalText n) ≤ length (now out) ⌝ }
+    ensures { λ r. ⌜ Wrote (now (out .entry)) (now (out .exit)) at r (decimalText n) ⌝ }
+{
+    if n < unit {
+        return put_decimal(out, at, n);
+    }
+    let p = put_text(out, at, head);
+    put_padded(out, p, w, n)
+}
+
+// Puts n in decimal at the start of an array, unless it is the number that stands there already, and gives how many digits it has.
+pub fn renew(kept: &mut [u8; 20], digits: usize, last: u64, n: u64) -> usize
+    requires { ⌜ (take digits (now kept) ≡ decimalText last) × (digits ≤ 20) ⌝ }
+    ensures { λ d. ⌜ take d (now (kept .exit)) ≡ decimalText n ⌝ }
+    ensures { λ d. ⌜ (d ≤ 20) × (d ≤ length (now (kept .exit))) ⌝ }
+{
+    let slots: &mut [u8] = kept;
+    if n == last {
+        return digits;
+    }
+    put_decimal(slots, 0, n)
 }
 
 // The byte of a hexadecimal digit.

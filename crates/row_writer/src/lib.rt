@@ -2,18 +2,19 @@
 use base::put_byte;
 use digits::Letters;
 use digits::decimal_length;
+use digits::put_behind;
 use digits::put_decimal;
 use digits::put_hex;
 use digits::put_padded;
 use record::Record;
 ghost use mathlib.Core.Path.{_≡_};
 ghost use mathlib.Core.List.{[], _∷_};
-ghost use Prim.Native.Nat.{_+_, _*_, _^_, _≤_, _<_};
+ghost use Prim.Native.Nat.{_+_, _*_, _/_, _^_, _≤_, _<_};
 ghost use lib.ListN.{length};
 ghost use Rattle.base.specs.Wrote.{Wrote};
 ghost use Rattle.digits.specs.declared.Letters.{Letters};
 ghost use Rattle.digits.specs.declared.Letters.the-variants.{Capital};
-ghost use Rattle.digits.specs.House.{hexText, PairsOf};
+ghost use Rattle.digits.specs.House.{decimalText, hexText, PairsOf};
 ghost use Rattle.record.specs.Record.{WellFormed};
 ghost use Rattle.row.specs.Answer.{Carries};
 ghost use Rattle.row.specs.House.{joined, numberText, offsetText, busTexts, markText, idText, byteTexts, dataTexts, rowText};
@@ -29,12 +30,13 @@ fn put_three(out: &mut [u8], at: usize, a: u8, b: u8, c: u8) -> usize
     put_byte(out, q, c)
 }
 
-// Row number and `)`.
-fn put_number(out: &mut [u8], at: usize, k: u64) -> usize
+// Row number and `)`. Its digits before the last are at hand.
+fn put_number(out: &mut [u8], at: usize, k: u64, tens: &[u8]) -> usize
     requires { ⌜ at + length (numberText k) ≤ length (now out) ⌝ }
+    requires { ⌜ now tens ≡ decimalText (k / 10) ⌝ }
     ensures { λ r. ⌜ Wrote (now (out .entry)) (now (out .exit)) at r (numberText k) ⌝ }
 {
-    let p = put_decimal(out, at, k);
+    let p = put_behind(out, at, k, 1, 10, tens);
     put_byte(out, p, 41)
 }
 
@@ -44,13 +46,14 @@ fn number_length(k: u64) -> usize
     decimal_length(k) + 1
 }
 
-// Offset in milliseconds: one digit behind the point in version 1.1, three in version 1.2.
-fn put_offset(out: &mut [u8], at: usize, version: u64, offset: u64) -> usize
+// Offset in milliseconds: one digit behind the point in version 1.1, three in version 1.2. The digits of its whole seconds are at hand.
+fn put_offset(out: &mut [u8], at: usize, version: u64, offset: u64, seconds: &[u8]) -> usize
     requires { ⌜ at + length (32 ∷ offsetText version offset) ≤ length (now out) ⌝ }
+    requires { ⌜ now seconds ≡ decimalText (offset / 1000 / 1000) ⌝ }
     ensures { λ r. ⌜ Wrote (now (out .entry)) (now (out .exit)) at r (32 ∷ offsetText version offset) ⌝ }
 {
     let p = put_byte(out, at, 32);
-    let q = put_decimal(out, p, offset / 1000);
+    let q = put_behind(out, p, offset / 1000, 3, 1000, seconds);
     let s = put_byte(out, q, 46);
     if version == 11 {
         return put_padded(out, s, 1, offset % 1000 / 100);
@@ -192,12 +195,22 @@ fn data_length(r: Record) -> usize
 }
 
 // The fields before the mark.
-fn put_head(out: &mut [u8], at: usize, version: u64, k: u64, r: Record) -> usize
+fn put_head(
+    out: &mut [u8],
+    at: usize,
+    version: u64,
+    k: u64,
+    r: Record,
+    tens: &[u8],
+    seconds: &[u8],
+) -> usize
     requires { ⌜ at + length (joined (headTexts version k r)) ≤ length (now out) ⌝ }
+    requires { ⌜ now tens ≡ decimalText (k / 10) ⌝ }
+    requires { ⌜ now seconds ≡ decimalText (r .offset / 1000 / 1000) ⌝ }
     ensures { λ e. ⌜ Wrote (now (out .entry)) (now (out .exit)) at e (joined (headTexts version k r)) ⌝ }
 {
-    let p = put_number(out, at, k);
-    let q = put_offset(out, p, version, r.offset);
+    let p = put_number(out, at, k, tens);
+    let q = put_offset(out, p, version, r.offset, seconds);
     put_bus(out, q, version, r.bus)
 }
 
@@ -224,20 +237,25 @@ pub fn row_length(version: u64, k: u64, r: Record) -> usize
     head + frame
 }
 
-// Puts the row with number k and record r in a version at a position, and gives the position after it.
+// Puts the row with number k and record r in a version at a position, and gives the position after it. Of the row number it takes the
+// digits before the last, of the offset those of its whole seconds, as they were kept from the row before.
 pub fn put_row(
     out: &mut [u8],
     at: usize,
     version: u64,
     k: u64,
     r: Record,
+    tens: &[u8],
+    seconds: &[u8],
     pairs: &[u8; 512],
 ) -> usize
     requires { ⌜ WellFormed r × Carries r version × (1 ≤ k) × (k ≤ 999999) ⌝ }
     requires { ⌜ at + length (rowText version k r) ≤ length (now out) ⌝ }
+    requires { ⌜ now tens ≡ decimalText (k / 10) ⌝ }
+    requires { ⌜ now seconds ≡ decimalText (r .offset / 1000 / 1000) ⌝ }
     requires { ⌜ PairsOf Capital (now pairs) ⌝ }
     ensures { λ e. ⌜ Wrote (now (out .entry)) (now (out .exit)) at e (rowText version k r) ⌝ }
 {
-    let p = put_head(out, at, version, k, r);
+    let p = put_head(out, at, version, k, r, tens, seconds);
     put_frame(out, p, r, pairs)
 }

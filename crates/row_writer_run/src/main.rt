@@ -30,7 +30,20 @@ fn line(version: u64, k: u64, r: Record)
     if size <= 250 {
         let mut out = [46u8; 256];
         let pairs = digits::pairs(Letters::Capital);
-        let end = row_writer::put_row(&mut out, 2, version, k, r, &pairs);
+        let mut tens = [0u8; 20];
+        let mut seconds = [0u8; 20];
+        let t = digits::put_decimal(&mut tens, 0, k / 10);
+        let u = digits::put_decimal(&mut seconds, 0, r.offset / 1000 / 1000);
+        let end = row_writer::put_row(
+            &mut out,
+            2,
+            version,
+            k,
+            r,
+            &tens[..t],
+            &seconds[..u],
+            &pairs,
+        );
         io::print_decimal(STDOUT_FILENO, size as u64);
         text(b" ");
         front(&out, end + 2);

@@ -8,6 +8,7 @@ use digits::decimal_length;
 use digits::pairs;
 use digits::put_decimal;
 use digits::put_padded;
+use digits::renew;
 use record::Record;
 use record::Unpacked;
 use record::packed_at;
@@ -175,7 +176,8 @@ fn measure(version: u64, records: &[u8]) -> Size
     Size::Bytes(size)
 }
 
-// The second pass: the rows are put behind `from`, where there is room. No record is judged any more.
+// The second pass: the rows are put behind `from`, where there is room. No record is judged any more. The digits of the row number over ten
+// are kept in `tens` from row to row, and those of the offset's whole seconds in `seconds`: `last` is their number.
 fn put_rows(version: u64, records: &[u8], out: &mut [u8], from: usize)
     requires { ⌜ Fits version (now records) (now out) from ⌝ }
     ensures { λ _. ⌜ RowsPut version (now (records .entry)) (now (out .entry)) (now (out .exit)) from ⌝ }
@@ -184,10 +186,19 @@ fn put_rows(version: u64, records: &[u8], out: &mut [u8], from: usize)
     let mut k: u64 = 0;
     let mut p = from;
     let pairs = pairs(Letters::Capital);
+    let mut last: u64 = 0;
+    let mut tens = [0u8; 20];
+    let mut seconds = [0u8; 20];
+    let mut t = put_decimal(&mut tens, 0, 0);
+    let mut u = put_decimal(&mut seconds, 0, 0);
     while at < records.len() {
         k += 1;
+        t = renew(&mut tens, t, (k - 1) / 10, k / 10);
         let r = packed_at(records, at);
-        let q = put_row(out, p, version, k, r, &pairs);
+        let second = r.offset / 1000 / 1000;
+        u = renew(&mut seconds, u, last, second);
+        last = second;
+        let q = put_row(out, p, version, k, r, &tens[..t], &seconds[..u], &pairs);
         p = put_end(out, q);
         at += 20;
     }

@@ -1,4 +1,5 @@
 -- `row_writer::put_number` meets its contract.
+use mathlib.Core.Path.{refl}
 use native.Mathlib.Omega.{arith}
 use borrow.Author.Needs.{needs}
 use Rattle.base.proofs.Lists.{then}
@@ -9,7 +10,9 @@ use Rattle.row_writer.proofs.put_number.Tie as tie
 pub put-number-spec : {M : Type 1} → statement M
 put-number-spec =
     tie.close (tie.spec
-    (λ c κs. omega (arith, length-number (c .before .before .args .k)))
-    (λ c κs. omega (arith, length-number (c .before .before .before .before .before .before .args .k)))
+    (λ c κs.
+    let a = c .before .before .before in
+    ((refl, a .pre .1), omega (arith, length-number (a .args .k))))
+    (λ c κs. omega (arith, length-number (c .before .before .before .before .before .before .before .args .k)))
     (λ c. search needs)
-    (λ c. rw number (then (c .before .before .before .before .before .before .put-decimal .ensures) (c .before .before .put-byte .ensures))))
+    (λ c. rw number (then (c .before .before .before .before .before .before .put-behind .ensures) (c .before .before .put-byte .ensures))))
