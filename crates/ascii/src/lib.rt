@@ -104,13 +104,22 @@ fn ticks_of(start: u64, offset: u64) -> u64
     (start * 1000 + offset) / 100
 }
 
-// Puts the bytes of a stamp up to its point, unless those that stand there are of the same second.
+// Puts the bytes of a stamp up to its point. Called from two places, it stays a call, and the twenty bytes stay in memory, where they are copied at
+// once: inlined, they would be twenty values that are put one by one.
+fn show(head: &mut [u8; 20], start: u64, offset: u64)
+    requires { ⌜ (start ≤ startLimit) × (offset < 2 ^ 48) ⌝ }
+    ensures { λ _. ⌜ Shows (now (head .exit)) (ticksOf start offset / 10000) ⌝ }
+{
+    put_second(head, stamp_of(start, offset));
+}
+
+// The same, unless those that stand there are of the same second.
 fn renew(head: &mut [u8; 20], last: u64, second: u64, start: u64, offset: u64)
     requires { ⌜ Shows (now head) last × (start ≤ startLimit) × (offset < 2 ^ 48) × (second ≡ ticksOf start offset / 10000) ⌝ }
     ensures { λ _. ⌜ Shows (now (head .exit)) second ⌝ }
 {
     if second != last {
-        put_second(head, stamp_of(start, offset));
+        show(head, start, offset);
     }
 }
 
@@ -143,7 +152,7 @@ fn put_lines(start: u64, records: &[u8], out: &mut [u8])
     let mut p = 0;
     let mut last = start / 1000;
     let mut head = [0u8; 20];
-    put_second(&mut head, stamp_of(start, 0));
+    show(&mut head, start, 0);
     let pairs = pairs(Letters::Small);
     while at < records.len() {
         let r = packed_at(records, at);

@@ -1,8 +1,6 @@
 -- `ascii::renew` meets its contract.
 use mathlib.Core.Path.{_≡_}
 use native.Mathlib.Omega.{arith}
-use borrow.Author.Needs.{needs}
-use Rattle.ascii.proofs.Keeping.{shows}
 use Rattle.ascii.proofs.renew.Statement.{statement}
 use Rattle.ascii.proofs.renew.Tie as tie
 
@@ -10,8 +8,7 @@ pub renew-spec : {M : Type 1} → statement M
 renew-spec =
     tie.close (tie.spec
     (λ c κs. (c .before .before .pre .1, c .before .before .pre .2))
-    (λ c κs. search needs)
-    (λ c. shows (c .before .stamp-of .ensures) (c .put-second .ensures) (c .before .before .before .before .pre .3))
+    (λ c. rw (c .before .before .before .pre .3) (c .show .ensures))
     (λ c.
     let a = c .before in
     let e : a .args .second ≡ a .args .last = omega arith in
