@@ -1,13 +1,12 @@
 //! The reader: a first pass judges every line, a second fills the records.
 
 use super::clock::milliseconds;
+use super::cursor::{Window, LONGEST};
 use super::record::Fields;
 use super::row::row;
 use super::{Refusal, DAY, LAST_START, RECORD};
 
 const LONGEST_TEXT: usize = 134_217_728;
-/// The most bytes of a line without its end.
-const LONGEST: usize = 250;
 
 pub fn read(text: &[u8], out: &mut [u8]) -> [u64; 6] {
     match read_or_refuse(text, out) {
@@ -22,16 +21,16 @@ fn read_or_refuse(text: &[u8], out: &mut [u8]) -> Result<[u64; 4], Refusal> {
     }
     let (version, text) = header(text, (4, 1), version)?;
     let (start, text) = header(text, (5, 2), start)?;
+    // No value is needed before all is judged; so the first pass works out none.
+    let rows = each_row::<false>(text, version, |_, _| ())?;
+    let out = out.get_mut(..rows as usize * RECORD).ok_or((8, 0))?;
+    let mut records = out.as_chunks_mut().0.iter_mut();
     let (mut before, mut step_back) = (0, 0);
-    let rows = each_row(text, version, |number, fields| {
+    each_row::<true>(text, version, |number, fields| {
         if fields.offset < before && step_back == 0 {
             step_back = number;
         }
         before = fields.offset;
-    })?;
-    let out = out.get_mut(..rows as usize * RECORD).ok_or((8, 0))?;
-    let mut records = out.as_chunks_mut().0.iter_mut();
-    each_row(text, version, |_, fields| {
         if let Some(record) = records.next() {
             fields.store(record);
         }
@@ -39,22 +38,25 @@ fn read_or_refuse(text: &[u8], out: &mut [u8]) -> Result<[u64; 4], Refusal> {
     Ok([version, start, rows, step_back])
 }
 
-/// One pass over the lines from the third on. Gives the number of rows.
+/// One pass over the lines from the third on. Gives the number of rows. `JUDGED` says that a pass has taken them before.
 #[inline(always)]
-fn each_row(
+fn each_row<const JUDGED: bool>(
     mut text: &[u8],
     version: u64,
     mut take: impl FnMut(u64, &Fields),
 ) -> Result<u64, Refusal> {
     let (mut place, mut number) = (3, 1);
+    let mut padding = [0; size_of::<Window>()];
     while let Some(&first) = text.first() {
         if first == b';' {
             text = comment(text, place)?;
         } else {
-            // A row that is too long has its line end past these bytes.
-            let bytes = &text[..text.len().min(LONGEST + 2)];
+            let window = match text.first_chunk() {
+                Some(window) => window,
+                None => padded(text, &mut padding),
+            };
             let (fields, len) =
-                row(bytes, number, version == 12).ok_or_else(|| no_row(text, place))?;
+                row::<JUDGED>(window, number, version == 12).ok_or_else(|| no_row(text, place))?;
             take(number, &fields);
             number += 1;
             text = &text[len..];
@@ -62,6 +64,14 @@ fn each_row(
         place += 1;
     }
     Ok(number - 1)
+}
+
+/// The window of a text that does not fill it: zeros follow, which no row has.
+#[cold]
+fn padded<'a>(text: &[u8], window: &'a mut Window) -> &'a Window {
+    window.fill(0);
+    window[..text.len()].copy_from_slice(text);
+    window
 }
 
 /// The text after a comment.

@@ -1,46 +1,57 @@
 //! One row of a trace, read where it stands.
 
-use super::cursor::Cursor;
+use super::cursor::{Cursor, Window, LONGEST, TOGETHER};
 use super::record::{error, Fields, ERROR, EXTENDED_IDS, REMOTE, STANDARD_IDS, WARNING};
 
-/// Reads the row at the beginning of some bytes, and gives the bytes it has with its line end.
-/// The rows of version 1.2 are those with a bus.
+/// Reads the row at the beginning of a window, and gives the bytes it has with its line end.
+/// The rows of version 1.2 are those with a bus. `JUDGED` says that the row was taken before.
 #[inline(always)]
-pub fn row(bytes: &[u8], number: u64, with_bus: bool) -> Option<(Fields, usize)> {
-    let mut cursor = Cursor::new(bytes);
-    cursor.blanks();
-    if cursor.decimal(6)? != number {
-        return None;
-    }
-    cursor.text(b")")?;
+pub fn row<const JUDGED: bool>(
+    window: &Window,
+    number: u64,
+    with_bus: bool,
+) -> Option<(Fields, usize)> {
+    let mut cursor = Cursor::<JUDGED>::new(window);
+    cursor.blanks()?;
+    cursor.number(number)?;
     cursor.gap()?;
     let (offset, bus) = match with_bus {
         true => (cursor.offset_of_three_digits()?, cursor.bus()?),
         false => (cursor.offset_of_one_digit()?, 0),
     };
     cursor.gap()?;
-    let fields = match cursor.peek()? {
-        b'W' => cursor.warning(),
-        b'E' => cursor.error(),
-        _ => cursor.frame(),
-    }?;
-    cursor.blanks();
-    cursor.text(b"\r\n")?;
+    // The cursor is given away and back, so that it need not lie in memory for the rare rows.
+    let (fields, mut cursor) = match cursor.peek()? {
+        b'W' => cursor.warning()?,
+        b'E' => cursor.error()?,
+        _ => cursor.frame()?,
+    };
+    cursor.end()?;
+    let len = cursor.at();
+    cursor.must(len <= LONGEST + 2)?;
     Some((
         Fields {
             offset,
             bus,
             ..fields
         },
-        cursor.at(),
+        len,
     ))
 }
 
-impl Cursor<'_> {
+impl<const JUDGED: bool> Cursor<'_, JUDGED> {
+    /// The row number and `)`.
+    #[inline(always)]
+    fn number(&mut self, number: u64) -> Option<()> {
+        let value = self.decimal::<6>()?;
+        self.must(value == number)?;
+        self.text(b")")
+    }
+
     /// The offset of version 1.1 in microseconds.
     #[inline(always)]
     fn offset_of_one_digit(&mut self) -> Option<u64> {
-        let whole = self.decimal(11)?;
+        let whole = self.decimal::<11>()?;
         self.text(b".")?;
         Some(whole * 1000 + self.decimal_digits::<1>()? * 100)
     }
@@ -48,7 +59,7 @@ impl Cursor<'_> {
     /// The offset of version 1.2 in microseconds.
     #[inline(always)]
     fn offset_of_three_digits(&mut self) -> Option<u64> {
-        let whole = self.decimal(11)?;
+        let whole = self.decimal::<11>()?;
         self.text(b".")?;
         Some(whole * 1000 + self.decimal_digits::<3>()?)
     }
@@ -57,68 +68,97 @@ impl Cursor<'_> {
     #[inline(always)]
     fn bus(&mut self) -> Option<u64> {
         self.gap()?;
-        let bus = self.decimal(2)?;
-        (1..=16).contains(&bus).then_some(bus)
+        let bus = self.decimal::<2>()?;
+        self.must((1..=16).contains(&bus))?;
+        Some(bus)
     }
 
     /// A data or remote frame, from `Rx` or `Tx` on.
     #[inline(always)]
-    fn frame(&mut self) -> Option<Fields> {
-        let sent = match self.take()? {
-            b"Rx" => 0,
-            b"Tx" => 1,
-            _ => return None,
-        };
+    fn frame(mut self) -> Option<(Fields, Self)> {
+        let sent = self.direction()?;
         self.gap()?;
         let (extended, id) = self.id()?;
         self.gap()?;
         let length = self.decimal_digits::<1>()?;
-        if length > 8 {
-            return None;
-        }
-        let (remote, data) = match self.remote() {
-            true => (REMOTE, 0),
-            false => (0, self.data(length)?),
-        };
-        Some(Fields {
+        self.must(length <= 8)?;
+        let (remote, data) = self.remote_or_data(length)?;
+        let fields = Fields {
             kind: sent + remote,
             extended,
             id,
             length,
             data,
             ..Fields::default()
-        })
+        };
+        Some((fields, self))
+    }
+
+    /// Whether it is sent: `Rx` or `Tx`.
+    #[inline(always)]
+    fn direction(&mut self) -> Option<u64> {
+        let direction = self.take()?;
+        self.must(matches!(direction, b"Rx" | b"Tx"))?;
+        Some(u64::from(direction == b"Tx"))
     }
 
     /// Whether it is extended, and the ID: four digits up to 07FF or eight up to 1FFFFFFF.
     #[inline(always)]
     fn id(&mut self) -> Option<(u64, u64)> {
-        let id = self.hex_digits::<4>()?;
-        if self.peek() == Some(b' ') {
-            return (id <= STANDARD_IDS).then_some((0, id));
+        let id = self.hex_pairs::<2>()?;
+        if self.peek()? == b' ' {
+            self.must(id <= STANDARD_IDS)?;
+            return Some((0, id));
         }
-        let id = id << 16 | self.hex_digits::<4>()?;
-        (id <= EXTENDED_IDS).then_some((1, id))
+        let id = id << 16 | self.hex_pairs::<2>()?;
+        self.must(id <= EXTENDED_IDS)?;
+        Some((1, id))
     }
 
-    /// Whether `RTR` follows after a gap. If so, it is read.
+    /// What follows the length: `RTR`, or so many bytes.
     #[inline(always)]
-    fn remote(&mut self) -> bool {
-        let mut ahead = self.clone();
-        let found = ahead.gap().is_some() && ahead.text(b"RTR").is_some();
-        if found {
-            *self = ahead;
+    fn remote_or_data(&mut self, length: u64) -> Option<(u64, u64)> {
+        if self.peek()? != b' ' {
+            self.must(length == 0)?;
+            return Some((0, 0));
         }
-        found
+        self.gap()?;
+        if self.peek()? == b'R' {
+            self.text(b"RTR")?;
+            return Some((REMOTE, 0));
+        }
+        Some((0, self.data(length)?))
     }
 
-    /// So many bytes after a gap each, the first most significant.
+    /// So many bytes with a gap between two, the first most significant. Mostly they are eight and end the line.
     #[inline(always)]
     fn data(&mut self, length: u64) -> Option<u64> {
+        let ahead = self.ahead()?;
+        if length == 8 && ahead[TOGETHER - 1] == b'\r' {
+            self.eight_bytes(ahead)
+        } else {
+            self.bytes(length)
+        }
+    }
+
+    /// Eight bytes up to the end of the line, where there is room for just one blank between two.
+    #[inline(always)]
+    fn eight_bytes(&mut self, bytes: &[u8; TOGETHER]) -> Option<u64> {
+        let bytes = bytes.as_chunks::<3>().0;
+        self.must(bytes[..7].iter().all(|[.., blank]| *blank == b' '))?;
+        self.skip(TOGETHER - 1);
+        self.hex(bytes.iter().map(|[first, last, _]| (first, last)))
+    }
+
+    /// So many bytes with gaps of any width.
+    #[inline(always)]
+    fn bytes(&mut self, length: u64) -> Option<u64> {
         let mut data = 0;
         for place in 1..=length {
-            self.gap()?;
-            data |= self.hex_digits::<2>()? << (64 - 8 * place);
+            if place > 1 {
+                self.gap()?;
+            }
+            data |= self.hex_pairs::<1>()? << (64 - 8 * place);
         }
         Some(data)
     }
@@ -127,47 +167,59 @@ impl Cursor<'_> {
     fn four_bytes(&mut self) -> Option<u64> {
         self.gap()?;
         self.text(b"4")?;
+        self.gap()?;
         self.data(4)
     }
 
     #[cold]
-    fn warning(&mut self) -> Option<Fields> {
+    fn warning(mut self) -> Option<(Fields, Self)> {
         self.text(b"Warng")?;
         self.gap()?;
-        if self.hex_digits::<8>()? != 0xFFFF_FFFF {
-            return None;
-        }
+        let id = self.hex_pairs::<4>()?;
+        self.must(id == 0xFFFF_FFFF)?;
         let data = self.four_bytes()?;
-        self.words();
-        Some(Fields {
+        self.words()?;
+        let fields = Fields {
             kind: WARNING,
             length: 4,
             data,
             ..Fields::default()
-        })
+        };
+        Some((fields, self))
     }
 
     /// Any words of capital letters, after a gap each.
-    fn words(&mut self) {
-        while self.gap().is_some() {
-            while self.peek().is_some_and(|byte| byte.is_ascii_uppercase()) {
-                self.take::<1>();
+    fn words(&mut self) -> Option<()> {
+        while self.peek()? == b' ' {
+            self.gap()?;
+            while self.peek()?.is_ascii_uppercase() {
+                self.skip(1);
             }
         }
+        Some(())
     }
 
     #[cold]
-    fn error(&mut self) -> Option<Fields> {
+    fn error(mut self) -> Option<(Fields, Self)> {
         self.text(b"Error")?;
         self.gap()?;
-        let id = self.hex_digits::<4>()?;
+        let id = self.hex_pairs::<2>()?;
         let data = self.four_bytes()?;
-        error(id, data).then_some(Fields {
+        let fields = Fields {
             kind: ERROR,
             id,
             length: 4,
             data,
             ..Fields::default()
-        })
+        };
+        self.must(error(id, data))?;
+        Some((fields, self))
+    }
+
+    /// Any blanks and the end of the line.
+    #[inline(always)]
+    fn end(&mut self) -> Option<()> {
+        self.blanks()?;
+        self.text(b"\r\n")
     }
 }
