@@ -98,7 +98,7 @@ positive (digits-more {x = x} {d = d} {n = n} {m = m} {s = s} p r e) h f = go (�
         omega (arith, mul-le-mul-right (10 ^ length s) q, one-le-pow (length s) 10 (omega arith))
 
 -- A field of digits, and what follows them, where it stands.
-spread : {f rest s : List ℕ} (g v : List ℕ) → FieldAt f rest s → f ≡ g ++ v → s ≡ g ++ (v ++ rest)
+pub spread : {f rest s : List ℕ} (g v : List ℕ) → FieldAt f rest s → f ≡ g ++ v → s ≡ g ++ (v ++ rest)
 spread {rest = rest} g v a e = a .bytes ∙ ap (λ (l : List ℕ). l ++ rest) e ∙ append-assoc g v rest
 
 lead : (w : List ℕ) (at : ℕ) {k : ℕ} {g : List ℕ} (u : List ℕ) → Decimal k g → 1 ≤ k → drop at w ≡ g ++ u → getD w at 0 ≢ 48

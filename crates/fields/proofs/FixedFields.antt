@@ -42,7 +42,7 @@ stops-map g over = over
 stops-map g (halt {b = b} n) = halt (λ p. n (g b p))
 
 -- The bytes of a field are those that stand there.
-byte-at : (w : List ℕ) (at k : ℕ) {f rest : List ℕ} → FieldAt f rest (drop at w) → k < length f → getD w (at + k) 0 ≡ getD f k 0
+pub byte-at : (w : List ℕ) (at k : ℕ) {f rest : List ℕ} → FieldAt f rest (drop at w) → k < length f → getD w (at + k) 0 ≡ getD f k 0
 byte-at w at k {f} {rest} a h = sym (getD-drop at w k 0) ∙ ap (λ (l : List ℕ). getD l k 0) (a .bytes) ∙ List·getD-append f rest 0 k h
 
 -- The bytes t stand from `at` on, none of them ends the field, and the line goes on behind them.
