@@ -92,7 +92,7 @@ mark-of (Row.error e h) = (3, mark-err e, failed h)
 pub some-mark : {r : Record} {f : List ℕ} {fs : List (List ℕ)} → Row.FromMark r (f ∷ fs) → (v : ℕ) × MarkField v f
 some-mark h = let x = mark-of h in (x .0, x .1)
 
-after-mark : {v : ℕ} {r : Record} {f : List ℕ} {fs : List (List ℕ)} → MarkField v f → Row.FromMark r (f ∷ fs) → AfterMark r v fs
+pub after-mark : {v : ℕ} {r : Record} {f : List ℕ} {fs : List (List ℕ)} → MarkField v f → Row.FromMark r (f ∷ fs) → AfterMark r v fs
 after-mark m h = let x = mark-of h in rw (mark-one (x .1) m) at (x .2)
 
 mark-back : {v : ℕ} {r : Record} {f : List ℕ} {fs : List (List ℕ)} → MarkField v f → AfterMark r v fs → Row.FromMark r (f ∷ fs)
@@ -101,7 +101,7 @@ mark-back (mark-tx e) (sent h) = Row.tx e h
 mark-back (mark-warng e) (warned h) = Row.warng e h
 mark-back (mark-err e) (failed h) = Row.error e h
 
-frame-of : {v : ℕ} {r : Record} {fs : List (List ℕ)} → v ≤ 1 → AfterMark r v fs → Row.FrameId v r fs
+pub frame-of : {v : ℕ} {r : Record} {fs : List (List ℕ)} → v ≤ 1 → AfterMark r v fs → Row.FrameId v r fs
 frame-of l (received h) = h
 frame-of l (sent h) = h
 frame-of l (warned h) = absurd (omega arith)
@@ -112,13 +112,13 @@ of-frame zero l h = received h
 of-frame (suc zero) l h = sent h
 of-frame (suc (suc v)) l h = absurd (omega arith)
 
-warning-of : {v : ℕ} {r : Record} {fs : List (List ℕ)} → v ≡ 2 → AfterMark r v fs → Row.WarningId r fs
+pub warning-of : {v : ℕ} {r : Record} {fs : List (List ℕ)} → v ≡ 2 → AfterMark r v fs → Row.WarningId r fs
 warning-of l (received h) = absurd (omega arith)
 warning-of l (sent h) = absurd (omega arith)
 warning-of l (warned h) = h
 warning-of l (failed h) = absurd (omega arith)
 
-error-of : {v : ℕ} {r : Record} {fs : List (List ℕ)} → 2 < v → AfterMark r v fs → Row.ErrorIdField r fs
+pub error-of : {v : ℕ} {r : Record} {fs : List (List ℕ)} → 2 < v → AfterMark r v fs → Row.ErrorIdField r fs
 error-of l (received h) = absurd (omega arith)
 error-of l (sent h) = absurd (omega arith)
 error-of l (warned h) = absurd (omega arith)

@@ -36,14 +36,14 @@ behead {b} {s} (c ∷ line) n l =
     tail : All NoEnd (c ∷ line) → All NoEnd line
     tail (more p q) = q
 
-peel : {f : List ℕ} (s : List ℕ) {line : List ℕ} → All NoEnd f → LineOf line (f ++ s) → (l : List ℕ) × (line ≡ f ++ l) × LineOf l s
+pub peel : {f : List ℕ} (s : List ℕ) {line : List ℕ} → All NoEnd f → LineOf line (f ++ s) → (l : List ℕ) × (line ≡ f ++ l) × LineOf l s
 peel s {line} empty l = (line, refl, l)
 peel s {line} (more {b = b} n a) l =
     let x = behead line n l in
     let y = peel s a (x .2) in
     (y .0, cc (x .1, y .1), y .2)
 
-ends-here : (w : List ℕ) (a : ℕ) {line : List ℕ} → LineOf line (drop a w) → getD w a 0 ≡ 13 → line ≡ []
+pub ends-here : (w : List ℕ) (a : ℕ) {line : List ℕ} → LineOf line (drop a w) → getD w a 0 ≡ 13 → line ≡ []
 ends-here w a {line} l e = go line l
   where
     go : (line : List ℕ) → LineOf line (drop a w) → line ≡ []
@@ -65,7 +65,7 @@ module _ {w : List ℕ} {at a : ℕ} (k : Skipped w at a) where
   gap : drop at w ≡ slice at a w ++ drop a w
   gap = let i = inside w a (k .lined) in slice-drop at a w (k .from) (omega arith)
 
-  after-gap : {line : List ℕ} → LineOf line (drop at w) → (l : List ℕ) × (line ≡ slice at a w ++ l) × LineOf l (drop a w)
+  pub after-gap : {line : List ℕ} → LineOf line (drop at w) → (l : List ℕ) × (line ≡ slice at a w ++ l) × LineOf l (drop a w)
   after-gap l = peel (drop a w) (all-map blank-plain (k .blanks)) (rw gap at l)
 
   pub gap-found : {p : Part} {out line : List ℕ} {e : ℕ} → LineOf line (drop at w) → ((l : List ℕ) → LineOf l (drop a w) → Finds p a l out e) → Finds p at line out e
@@ -88,14 +88,14 @@ module _ {w : List ℕ} {at a : ℕ} (k : Skipped w at a) where
 
 -- A field, and the line behind it.
 
-solid-plain : (b : ℕ) → Solid b → NoEnd b
+pub solid-plain : (b : ℕ) → Solid b → NoEnd b
 solid-plain b s = s .end
 
-solid-dark : (b : ℕ) → Solid b → NoBlank b
+pub solid-dark : (b : ℕ) → Solid b → NoBlank b
 solid-dark b s = s .blank
 
 -- behind a field the line ends or a blank stands
-parts-here : {l s : List ℕ} → LineOf l s → Stops Solid s → Stops NoBlank l
+pub parts-here : {l s : List ℕ} → LineOf l s → Stops Solid s → Stops NoBlank l
 parts-here {l} k h = go l k h
   where
     go : (l : List ℕ) {s : List ℕ} → LineOf l s → Stops Solid s → Stops NoBlank l
@@ -110,14 +110,14 @@ parts-here {l} k h = go l k h
         no e (halt {b = c} n) x = let h : c ≡ b = cc in n (rw h x)
 
 -- the first field of a line that starts with one
-record FirstField (w : List ℕ) (at : ℕ) (fs : List (List ℕ)) : Type 0 where
-  field : List ℕ
-  rest : List ℕ
-  others : List (List ℕ)
-  there : FieldAt field rest (drop at w)
-  first : fs ≡ field ∷ others
+pub record FirstField (w : List ℕ) (at : ℕ) (fs : List (List ℕ)) : Type 0 where
+  pub field : List ℕ
+  pub rest : List ℕ
+  pub others : List (List ℕ)
+  pub there : FieldAt field rest (drop at w)
+  pub first : fs ≡ field ∷ others
 
-first-field : (w : List ℕ) (at : ℕ) {fs : List (List ℕ)} {line : List ℕ} → Starts w at → LineOf line (drop at w) → Parted fs line → FirstField w at fs
+pub first-field : (w : List ℕ) (at : ℕ) {fs : List (List ℕ)} {line : List ℕ} → Starts w at → LineOf line (drop at w) → Parted fs line → FirstField w at fs
 first-field w at k l ps = go ps l (next-line w at l (k .solid .end) .1)
   where
     b : ℕ

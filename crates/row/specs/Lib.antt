@@ -2,3 +2,4 @@ pub mod Row
 pub mod House
 pub mod Answer
 pub mod Stages
+pub mod Taking

@@ -17,7 +17,7 @@ ghost use Rattle.row.specs.Answer.{ReadsRow};
 ghost use Rattle.row.specs.Stages.{Skipped, Finds, RowFound, part, Good};
 
 // The place behind the blanks. Most gaps are one blank: they are passed before the loop.
-fn skip(w: &[u8; 256], at: usize) -> usize
+pub fn skip(w: &[u8; 256], at: usize) -> usize
     requires { ⌜ Lined (drop at (now w)) ⌝ }
     ensures { λ a. ⌜ Skipped (now (w .entry)) at a ⌝ }
     ensures { λ a. ⌜ a < 256 ⌝ }
