@@ -1,10 +1,12 @@
 -- What the second pass keeps: the records of the lines up to `at` are packed, and those of the rest are to come.
 use Prim.Native.Nat.{ℕ, suc, _+_, _*_, _-_, _≤_, _<_}
 use mathlib.Core.Path.{_≡_, refl, ap, sym, _∙_}
+use mathlib.Core.Logic.{_≢_, _⊎_, inl, inr, ⊎-elim}
 use mathlib.Core.List.{List, [], _∷_, _++_, append-nil, append-assoc}
 use native.Mathlib.Omega.{arith}
-use lib.ListN.{length, take, drop, length-append, length-drop, take-append-drop, drop-of-length-le}
-use lib.Seq.{sets, sets-eq, take-at, drop-append-add, drop-drop}
+use lib.ListN.{length, getD, take, drop, length-append, length-drop, take-append-drop, drop-of-length-le}
+use lib.Seq.{sets, sets-eq, drop-cons, take-at, drop-append-add, drop-drop}
+use Rattle.base.proofs.Numbers.{below-or-not}
 use Rattle.record.specs.declared.Record.{Record}
 use Rattle.record.specs.Bytes.{bytes}
 use Rattle.record.specs.Record.{number, WellFormed}
@@ -12,18 +14,34 @@ use Rattle.record.proofs.Bytes.{length-bytes}
 use Rattle.row.specs.Row.{Row}
 use Rattle.row.proofs.Formed.{row-formed}
 use Rattle.row.proofs.One.{row-one}
+use Rattle.row.proofs.Plain.{row-starts, row-some}
 use Rattle.lines.specs.Lines.{FirstLine, Comment}
 use Rattle.trace.specs.Trace.{Trace, Line, Body, over, comment, row, Spells}
-use Rattle.trace.specs.Promise.{packed}
-use Rattle.trace.specs.Passes.{There, NoRow, Bars, Headed, Fits, Filled}
+use Rattle.trace.specs.Promise.{packed, stepBack}
+use Rattle.trace.specs.Passes.{There, Rowed, Bars, Headed, Fits, BackAfter, Filled}
 use Rattle.trace.specs.Passes
 use Rattle.trace.proofs.Cuts.{withRecords, spells-cut}
 use Rattle.lines.proofs.Theorems.{first-one, not-both}
 use Rattle.trace.proofs.Apart.{no-line, row-no-comment, row-no-dollar}
 use Rattle.trace.proofs.One.{one-trace}
-use Rattle.trace.proofs.Packing.{packed-more, packed-length}
+use Rattle.trace.proofs.Packing.{packed-more, packed-length, lastOffset, last-more, back-keep, back-found, back-none}
 
-pub record Filling (text old out : List ℕ) (version start at o rows : ℕ) : Type 0 where
+-- The first step back with one record more.
+stepped-more : (rs : List Record) {last back b n : ℕ} (r : Record) → n ≡ length rs → last ≡ lastOffset rs → back ≡ stepBack rs
+    → BackAfter back (n + 1) last (r .offset) b → b ≡ stepBack (rs ++ (r ∷ []))
+stepped-more rs {last} {back} {b} r c l s f = step (below-or-not 0 back)
+  where
+    step : (0 < back) ⊎ (back ≤ 0) → b ≡ stepBack (rs ++ (r ∷ []))
+    step (inl h) = f .kept h ∙ s ∙ sym (back-keep rs r (rw s at h))
+    step (inr h) =
+        let z : back ≡ 0 = omega arith in
+        let e : stepBack rs ≡ 0 = sym s ∙ z in
+        ⊎-elim
+        (λ m. f .found z m ∙ ap (λ (x : ℕ). x + 1) c ∙ sym (back-found rs r e (rw l at m)))
+        (λ m. f .none z m ∙ sym (back-none rs r e (rw l at m)))
+        (below-or-not (r .offset) last)
+
+pub record Filling (text old out : List ℕ) (version start at o rows last back : ℕ) : Type 0 where
   pub within : at ≤ length text
   pub few : rows ≤ at
   pub before : List Record
@@ -34,9 +52,11 @@ pub record Filling (text old out : List ℕ) (version start at o rows : ℕ) : T
   pub room : o + 20 * length after ≤ length old
   pub place : o ≡ 20 * length before
   pub stored : out ≡ packed before ++ drop o old
+  pub latest : last ≡ lastOffset before
+  pub stepped : back ≡ stepBack before
 
-pub filling : {text old : List ℕ} {version start at : ℕ} → Headed text at version start → Fits text old version start → Filling text old old version start at 0 0
-unfolding packed
+pub filling : {text old : List ℕ} {version start at : ℕ} → Headed text at version start → Fits text old version start → Filling text old old version start at 0 0 0 0
+unfolding packed stepBack
 filling {text} {old} {version} {start} {at} h f =
     let c = spells-cut (drop at text) (omega arith) (h .lines) (rw (← take-append-drop at text) at (f .spelled)) in
     let z : c .before ≡ [] = ap (λ (t : Trace). t .records) (one-trace (c .first) (h .spelled)) in
@@ -52,9 +72,16 @@ filling {text} {old} {version} {start} {at} h f =
       room = let m = rw w at (f .room) in omega arith;
       place = refl;
       stored = refl;
+      latest = refl;
+      stepped = refl;
     }
 
 -- The next line of the rows to come.
+
+first-byte : {line after s x y : List ℕ} {b d : ℕ} → FirstLine line after s → line ≡ b ∷ x → s ≡ d ∷ y → d ≡ b
+first-byte {line} {after} {s} {x} {y} {b} {d} f e q =
+    let z : d ∷ y ≡ b ∷ (x ++ (13 ∷ 10 ∷ after)) = sym q ∙ f .ended ∙ ap (λ (t : List ℕ). t ++ (13 ∷ 10 ∷ after)) e in
+    cc
 
 head-row : {v k : ℕ} {rs : List Record} {r : Record} {line rest s : List ℕ} → Body v k rs s → FirstLine line rest s → Row v k r line
     → (qs : List Record) × (rs ≡ r ∷ qs) × Body v (k + 1) qs rest
@@ -88,14 +115,14 @@ behind p b old out o n e k h q =
     let d : drop (o + n) out ≡ drop (o + n) old = rw (q, ← e, drop-append-add, drop-drop) in
     sets-eq b out o (omega arith) ∙ rw (t, k, d)
 
-module _ {text old out : List ℕ} {version start at o rows : ℕ} (f : Filling text old out version start at o rows) where
+module _ {text old out : List ℕ} {version start at o rows last back : ℕ} (f : Filling text old out version start at o rows last back) where
   pub out-length : length out ≡ length old
   out-length =
       let p = f .place in
       let m = f .room in
       omega (arith, ap length (f .stored) ∙ length-append (packed (f .before)) (drop o old), packed-length (f .before), length-drop o old)
 
-  pub stored-note : {next : ℕ} (line : List ℕ) → There text at next line → Comment line → Filling text old out version start next o rows
+  pub stored-note : {next : ℕ} (line : List ℕ) → There text at next line → Comment line → Filling text old out version start next o rows last back
   stored-note line t c = record {
     within = t .within;
     few = let a = f .few in let b = t .later in omega arith;
@@ -107,6 +134,8 @@ module _ {text old out : List ℕ} {version start at o rows : ℕ} (f : Filling 
     room = f .room;
     place = f .place;
     stored = f .stored;
+    latest = f .latest;
+    stepped = f .stepped;
   }
 
   pub row-room : {next : ℕ} (r : Record) (line : List ℕ) → There text at next line → Row version (rows + 1) r line → (o + 20 ≤ length out) × WellFormed r
@@ -115,9 +144,10 @@ module _ {text old out : List ℕ} {version start at o rows : ℕ} (f : Filling 
       let m = f .room in
       (omega (arith, out-length, ap length (x .1)), row-formed w)
 
-  pub stored-row : {next : ℕ} (r : Record) (line new : List ℕ) → There text at next line → Row version (rows + 1) r line
-      → new ≡ sets out o (bytes 20 (number r)) → Filling text old new version start next (o + 20) (rows + 1)
-  stored-row r line new t w e =
+  pub stored-row : {next b : ℕ} (r : Record) (line new : List ℕ) → There text at next line → Row version (rows + 1) r line
+      → new ≡ sets out o (bytes 20 (number r)) → BackAfter back (rows + 1) last (r .offset) b
+      → Filling text old new version start next (o + 20) (rows + 1) (r .offset) b
+  stored-row r line new t w e y =
       let x = head-row (f .rest) (t .is .first) w in
       let m = f .room in
       let n = f .counted in
@@ -136,21 +166,39 @@ module _ {text old out : List ℕ} {version start at o rows : ℕ} (f : Filling 
             let p : length (packed (f .before)) ≡ o = packed-length (f .before) ∙ sym (f .place) in
             e ∙ behind (packed (f .before)) (bytes 20 (number r)) old out o 20 p (length-bytes 20 (number r)) (omega (arith, ap length (x .1))) (f .stored)
             ∙ ap (λ (y : List ℕ). y ++ drop (o + 20) old) (sym (packed-more (f .before) r));
+        latest = sym (last-more (f .before) r);
+        stepped = stepped-more (f .before) r n (f .latest) (f .stepped) y;
       }
 
-  pub never-bad : {n : ℕ} → at < length text → NoRow text at version (rows + 1) → Bars (drop at text) n → ⊥
-  never-bad h r b = no-bars (f .rest) (omega (arith, length-drop at text)) r b
+  -- What starts with `;` is no row, and what else is left starts with one.
+  pub never-bad : {n : ℕ} → at < length text → getD text at 0 ≡ 59 → Bars (drop at text) n → ⊥
+  never-bad h z b = no-bars (f .rest) (omega (arith, length-drop at text)) (λ r line after l w. not-row l w) b
+    where
+      not-row : {r : Record} {line after : List ℕ} → Line line after (drop at text) → Row version (rows + 1) r line → ⊥
+      not-row {line = []} l w = let n = row-some w in omega arith
+      not-row {line = b ∷ line} l w = row-starts w b line refl (sym (first-byte (l .first) refl (drop-cons text at 0 h)) ∙ z)
+
+  pub row-next : at < length text → getD text at 0 ≢ 59 → Rowed text at version (rows + 1)
+  row-next h z = go (f .rest) refl
+    where
+      go : {rs : List Record} {s : List ℕ} → Body version (rows + 1) rs s → s ≡ drop at text → Rowed text at version (rows + 1)
+      go over e = absurd (omega (arith, ap length e, length-drop at text))
+      go (comment l c b) e = absurd (z (first-byte (l .first) (c .bytes) (e ∙ drop-cons text at 0 h)))
+      go (row l x b) e = record { r = _; line = _; after = _; is = rw e at l; row = x }
 
   done-body : {k : ℕ} {rs : List Record} {s : List ℕ} → Body version k rs s → s ≡ [] → rs ≡ []
   done-body over e = refl
   done-body (comment l c b) e = absurd (no-line (rw e at (l .first)))
   done-body (row l w b) e = absurd (no-line (rw e at (l .first)))
 
-  pub filled : length text ≤ at → Filled text old out
+  pub filled : length text ≤ at → Filled text old out back
   filled h = record {
-    bytes = λ t s.
-        let z : f .after ≡ [] = done-body (f .rest) (drop-of-length-le text h) in
-        let q = ap (λ (u : Trace). u .records) (one-trace s (f .spelled)) in
-        let e : t .records ≡ f .before = q ∙ ap (λ (y : List Record). f .before ++ y) z ∙ append-nil (f .before) in
-        rw (e, ← (f .place)) (f .stored);
+    bytes = λ t s. rw (all t s, ← (f .place)) (f .stored);
+    back = λ t s. rw (all t s) (f .stepped);
   }
+    where
+      all : (t : Trace) → Spells t text → t .records ≡ f .before
+      all t s =
+          let z : f .after ≡ [] = done-body (f .rest) (drop-of-length-le text h) in
+          let q = ap (λ (u : Trace). u .records) (one-trace s (f .spelled)) in
+          q ∙ ap (λ (y : List Record). f .before ++ y) z ∙ append-nil (f .before)

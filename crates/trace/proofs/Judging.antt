@@ -1,29 +1,26 @@
 -- What the first pass keeps, line by line.
 use Prim.Native.Nat.{ℕ, _+_, _-_, _≤_, _<_}
 use mathlib.Core.Path.{_≡_, refl, ap, sym, _∙_}
-use mathlib.Core.Logic.{_⊎_, inl, inr, ⊎-elim}
 use mathlib.Core.List.{List, [], _∷_, _++_, append-nil}
 use native.Mathlib.Omega.{arith}
 use native.Mathlib.Decide.{ℕ-discrete}
 use lib.ListN.{length, take, drop, length-append, length-drop, length-take, take-append-drop}
 use lib.Seq.{take-add, take-at, take-all, length-take-le}
-use Rattle.base.proofs.Numbers.{below-or-not}
 use Rattle.record.specs.declared.Record.{Record}
 use Rattle.row.specs.Row.{Row}
 use Rattle.lines.specs.Lines.{Comment}
 use Rattle.trace.specs.declared.Judged.the-variants as judged
 use Rattle.trace.specs.Trace.{sizeLimit, Trace, Line, Body, over, comment, row, Spells}
-use Rattle.trace.specs.Promise.{Lines, Refused, stepBack}
-use Rattle.trace.specs.Passes.{There, NoRow, Bars, Headed, Judges, BackAfter}
+use Rattle.trace.specs.Promise.{Lines, Refused}
+use Rattle.trace.specs.Passes.{There, NoRow, Bars, Headed, Judges}
 use Rattle.trace.specs.Promise
 use Rattle.trace.specs.Passes
 use Rattle.trace.proofs.Cuts.{endedLine, first-alone, first-whole, lines-alone, lines-append, withRecords, spells-append}
 use Rattle.trace.proofs.Fails.{Stands, at-later, Stopped, later, stopped-refused}
 use Rattle.trace.proofs.Fails
-use Rattle.trace.proofs.Packing.{lastOffset, last-more, back-keep, back-found, back-none}
 
 -- The lines up to `at` are judged: they spell these records.
-pub record Judging (text : List ℕ) (version start at place rows last back : ℕ) : Type 0 where
+pub record Judging (text : List ℕ) (version start at place rows : ℕ) : Type 0 where
   pub within : at ≤ length text
   pub few : rows ≤ at
   pub near : place ≤ at
@@ -32,16 +29,13 @@ pub record Judging (text : List ℕ) (version start at place rows last back : �
   pub records : List Record
   pub spelled : Spells (record { version = version; start = start; records = records }) (take at text)
   pub counted : rows ≡ length records
-  pub latest : last ≡ lastOffset records
-  pub stepped : back ≡ stepBack records
 
 -- Each line has two bytes at the least, its end.
 lines-near : {n : ℕ} {s : List ℕ} → Lines n s → n ≤ length s
 lines-near Promise.none = omega arith
 lines-near (Promise.line {l = l} {rest = rest} f ls) = omega (arith, ap length (f .ended) ∙ length-append l (13 ∷ 10 ∷ rest), lines-near ls)
 
-pub judging : {text : List ℕ} {version start at : ℕ} → Headed text at version start → Judging text version start at 2 0 0 0
-unfolding stepBack
+pub judging : {text : List ℕ} {version start at : ℕ} → Headed text at version start → Judging text version start at 2 0
 judging {text} {at = at} h = record {
   within = h .within;
   few = omega arith;
@@ -51,8 +45,6 @@ judging {text} {at = at} h = record {
   records = [];
   spelled = h .spelled;
   counted = refl;
-  latest = refl;
-  stepped = refl;
 }
 
 -- The text up to the next line.
@@ -67,7 +59,7 @@ up-to {text} {at} {next} {line} t =
     let x : take (next - at) (drop at text) ≡ endedLine line = rw w (take-at (endedLine line) (drop next text) (next - at) n) in
     ap (λ (i : ℕ). take i text) m ∙ take-add at (next - at) text ∙ ap (λ (s : List ℕ). take at text ++ s) x
 
-module _ {text : List ℕ} {version start at place rows last back : ℕ} (j : Judging text version start at place rows last back) where
+module _ {text : List ℕ} {version start at place rows : ℕ} (j : Judging text version start at place rows) where
   abbrev so-far : Trace
   so-far = record { version = version; start = start; records = j .records }
 
@@ -81,7 +73,7 @@ module _ {text : List ℕ} {version start at place rows last back : ℕ} (j : Ju
   alone : {next : ℕ} {line : List ℕ} → There text at next line → Line line [] (endedLine line)
   alone t = record { first = first-alone (t .is .first .inside); short = t .is .short }
 
-  pub noted : {next : ℕ} (line : List ℕ) → There text at next line → Comment line → Judging text version start next (place + 1) rows last back
+  pub noted : {next : ℕ} (line : List ℕ) → There text at next line → Comment line → Judging text version start next (place + 1) rows
   noted {next} line t c =
       let x = line-more [] t (comment (alone t) c over) in
       let a = t .later in
@@ -97,13 +89,11 @@ module _ {text : List ℕ} {version start at place rows last back : ℕ} (j : Ju
         records = j .records;
         spelled = rw append-nil at (x .1);
         counted = j .counted;
-        latest = j .latest;
-        stepped = j .stepped;
       }
 
-  pub counted-row : {next b : ℕ} (r : Record) (line : List ℕ) → There text at next line → Row version (rows + 1) r line
-      → BackAfter back (rows + 1) last (r .offset) b → Judging text version start next (place + 1) (rows + 1) (r .offset) b
-  counted-row {next} {b} r line t w f =
+  pub counted-row : {next : ℕ} (r : Record) (line : List ℕ) → There text at next line → Row version (rows + 1) r line
+      → Judging text version start next (place + 1) (rows + 1)
+  counted-row {next} r line t w =
       let e = j .counted in
       let x = line-more (r ∷ []) t (row (alone t) (rw e at w) over) in
       let a = t .later in
@@ -119,19 +109,7 @@ module _ {text : List ℕ} {version start at place rows last back : ℕ} (j : Ju
         records = j .records ++ (r ∷ []);
         spelled = x .1;
         counted = omega (arith, length-append (j .records) (r ∷ []));
-        latest = sym (last-more (j .records) r);
-        stepped = step (below-or-not 0 back);
       }
-    where
-      step : (0 < back) ⊎ (back ≤ 0) → b ≡ stepBack (j .records ++ (r ∷ []))
-      step (inl h) = f .kept h ∙ j .stepped ∙ sym (back-keep (j .records) r (rw (← (j .stepped)) h))
-      step (inr h) =
-          let z : back ≡ 0 = omega arith in
-          let s : stepBack (j .records) ≡ 0 = sym (j .stepped) ∙ z in
-          ⊎-elim
-          (λ l. let c = j .counted in f .found z l ∙ ap (λ (x : ℕ). x + 1) c ∙ sym (back-found (j .records) r s (rw (← (j .latest)) l)))
-          (λ l. f .none z l ∙ sym (back-none (j .records) r s (rw (← (j .latest)) l)))
-          (below-or-not (r .offset) last)
 
   stops : {n : ℕ} → at < length text → NoRow text at version (rows + 1) → Bars (drop at text) n → Stopped (later so-far) (drop at text) n
   stops h r (Passes.unended f) = Fails.unended {rest = drop at text} (λ e. omega (arith, ap length e, length-drop at text)) f
@@ -142,5 +120,5 @@ module _ {text : List ℕ} {version start at place rows last back : ℕ} (j : Ju
   pub refused-line : {n : ℕ} → length text ≤ sizeLimit → at < length text → NoRow text at version (rows + 1) → Bars (drop at text) n → Refused text n (place + 1)
   refused-line s h r b = stopped-refused (at-later (j .two) (j .lines) (j .spelled)) (sym (take-append-drop at text)) s (stops h r b)
 
-  pub finished : length text ≤ at → Judges text version start (judged.Good rows back)
-  finished h = (j .records, rw (take-all at text h) at (j .spelled), j .counted, j .stepped)
+  pub finished : length text ≤ at → Judges text version start (judged.Good rows)
+  finished h = (j .records, rw (take-all at text h) at (j .spelled), j .counted)

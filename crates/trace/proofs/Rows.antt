@@ -19,7 +19,7 @@ use Rattle.row.proofs.Plain.{row-plain}
 use Rattle.row.proofs.Whole.{framed}
 use Rattle.lines.specs.Lines.{FirstLine}
 use Rattle.trace.specs.Trace.{Line}
-use Rattle.trace.specs.Passes.{There, Windowed, NoRow, RowAt, here, nowhere}
+use Rattle.trace.specs.Passes.{There, Windowed, Rowed, NoRow, RowAt, here, nowhere}
 
 -- What stands behind CR is the rest of the text.
 behind : (text line more : List ℕ) (at e : ℕ) → drop at text ≡ line ++ (13 ∷ more) → e ≡ suc (length line) → more ≡ drop (at + e) text
@@ -31,6 +31,41 @@ behind text line more at e d z =
 -- A CR stands in the window.
 pub lined : {text w : List ℕ} {at n : ℕ} → Windowed text at w n → Lined w
 lined {text} {at = at} {n = n} win = let x = framed (take n (drop at text)) (win .behind) in record { line = x .line; is = rw (win .bytes) (x .is) }
+
+-- A line without CR that is short and ended stands in the window too.
+module _ {text w : List ℕ} {at n : ℕ} (win : Windowed text at w n) {line after : List ℕ} (l : Line line after (drop at text)) where
+  size : length (drop at text) ≡ length line + suc (suc (length after))
+  size = ap length (l .first .ended) ∙ length-append line (13 ∷ 10 ∷ after)
+
+  pub long : length line + 2 ≤ n
+  long = by (decLt n (252))
+    where
+      by : Dec (n < 252) → length line + 2 ≤ n
+      by (yes h) = let m = win .most h in omega (arith, size, length-drop at text)
+      by (no h) = let s = l .short in omega arith
+
+  abbrev rest : List ℕ
+  rest = take (n - length line - 1) (10 ∷ after)
+
+  framed-line : w ≡ line ++ (13 ∷ (rest ++ (13 ∷ win .behind)))
+  framed-line =
+      let h = long in
+      let m : n ≡ length line + suc (n - length line - 1) = omega arith in
+      let t : take n (drop at text) ≡ line ++ (13 ∷ rest) =
+      ap (take n) (l .first .ended) ∙ ap (λ (i : ℕ). take i (line ++ (13 ∷ 10 ∷ after))) m ∙ take-append-add line (13 ∷ 10 ∷ after) (suc (n - length line - 1)) in
+      win .bytes ∙ ap (λ (x : List ℕ). x ++ (13 ∷ win .behind)) t ∙ append-assoc line (13 ∷ rest) (13 ∷ win .behind)
+
+  pub in-window : LineOf line w
+  in-window = record { rest = _; plain = all-map (λ b p. p .cr) (l .first .inside); ended = framed-line }
+
+-- Behind the CR of a line stand LF and the next line.
+next-byte : (text : List ℕ) (at : ℕ) {e : ℕ} {line after : List ℕ} → Line line after (drop at text) → e ≡ suc (length line)
+    → (at + e < length text) × (getD text (at + e) 0 ≡ 10) × (after ≡ drop (at + e + 1) text)
+next-byte text at {e} {line} {after} l y =
+    let b : 10 ∷ after ≡ drop (at + e) text = behind text line (10 ∷ after) at e (l .first .ended) y in
+    let h : at + e < length text = omega (arith, ap length b, length-drop (at + e) text) in
+    let c : 10 ∷ after ≡ getD text (at + e) 0 ∷ drop (at + e + 1) text = b ∙ drop-cons text (at + e) 0 h ∙ rw add-one in
+    (h, cc, cc)
 
 module _ {text w fields : List ℕ} {at version k n e : ℕ} (win : Windowed text at w n)
     (read : (line : List ℕ) → LineOf line w → RowFound version k line fields e) where
@@ -71,37 +106,30 @@ module _ {text w fields : List ℕ} {at version k n e : ℕ} (win : Windowed tex
   no-row-here not = nowhere refl none
     where
       none : NoRow text at version k
-      none r line after l u = go (read line (record { rest = _; plain = all-map (λ b p. p .0) (row-plain u); ended = framed-line }))
+      none r line after l u = go (read line (in-window win l))
         where
-          size : length (drop at text) ≡ length line + suc (suc (length after))
-          size = ap length (l .first .ended) ∙ length-append line (13 ∷ 10 ∷ after)
-
-          long : length line + 2 ≤ n
-          long = by (decLt n (252))
-            where
-              by : Dec (n < 252) → length line + 2 ≤ n
-              by (yes h) = let m = win .most h in omega (arith, size, length-drop at text)
-              by (no h) = let s = l .short in omega arith
-
-          rest : List ℕ
-          rest = take (n - length line - 1) (10 ∷ after)
-
-          framed-line : w ≡ line ++ (13 ∷ (rest ++ (13 ∷ win .behind)))
-          framed-line =
-              let h = long in
-              let m : n ≡ length line + suc (n - length line - 1) = omega arith in
-              let t : front ≡ line ++ (13 ∷ rest) =
-              ap (take n) (l .first .ended) ∙ ap (λ (i : ℕ). take i (line ++ (13 ∷ 10 ∷ after))) m ∙ take-append-add line (13 ∷ 10 ∷ after) (suc (n - length line - 1)) in
-              win .bytes ∙ ap (λ (x : List ℕ). x ++ (13 ∷ win .behind)) t ∙ append-assoc line (13 ∷ rest) (13 ∷ win .behind)
-
           go : RowFound version k line fields e → ⊥
           go (no-row y g) = g r u
           go (row-found v o y) =
-              let b : 10 ∷ after ≡ drop (at + e) text = behind text line (10 ∷ after) at e (l .first .ended) y in
-              let h : at + e < length text = omega (arith, ap length b, length-drop (at + e) text) in
-              let c : 10 ∷ after ≡ getD text (at + e) 0 ∷ drop (suc (at + e)) text = b ∙ drop-cons text (at + e) 0 h in
-              let g = long in
-              not (λ q. omega arith) (omega arith) cc
+              let x = next-byte text at l y in
+              let g = long win l in
+              not (λ q. omega arith) (omega arith) (x .1)
+
+-- A row that stands there ends within the text.
+module _ {text : List ℕ} {at version k : ℕ} (x : Rowed text at version k) where
+  pub rowed-within : at ≤ length text
+  rowed-within = let e = ap length (x .is .first .ended) ∙ length-append (x .line) (13 ∷ 10 ∷ x .after) in omega (arith, length-drop at text)
+
+  pub rowed-after : {e : ℕ} → e ≡ suc (length (x .line)) → at + e < length text
+  rowed-after y = next-byte text at (x .is) y .0
+
+-- A row that was judged is taken from its window.
+pub taken-here : {text fields : List ℕ} {at version k e : ℕ} (x : Rowed text at version k) → e ≡ suc (length (x .line)) → fields ≡ fieldsOf (x .r)
+    → RowAt text at version k fields (at + e + 1)
+taken-here {text} {at = at} x y o =
+    let n = next-byte text at (x .is) y in
+    let h = n .0 in
+    here (record { is = rw (n .2) at (x .is); later = omega arith; within = omega arith }) (x .row) o
 
 -- What was found: the row, and that its fields are those of its record.
 pub record Found (text : List ℕ) (at version k : ℕ) (fields : List ℕ) (next : ℕ) : Type 0 where

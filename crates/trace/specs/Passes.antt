@@ -42,6 +42,14 @@ pub data RowAt (text : List ℕ) (at version k : ℕ) (fields : List ℕ) (next 
       → RowAt text at version k fields next
   nowhere : next ≡ 0 → NoRow text at version k → RowAt text at version k fields next
 
+-- Row k stands at `at`.
+pub record Rowed (text : List ℕ) (at version k : ℕ) : Type 0 where
+  pub r : Record
+  pub line : List ℕ
+  pub after : List ℕ
+  pub is : Line line after (drop at text)
+  pub row : Row version k r line
+
 -- Where no row stands from line 3 on: what is left is refused with this number.
 pub data Bars (rest : List ℕ) : ℕ → Type 0 where
   unended : ((line after : List ℕ) → FirstLine line after rest → ⊥) → Bars rest 2
@@ -72,8 +80,8 @@ Heads text (heading.Bad n p) = Refused text n p
 
 -- The records of the whole text, or its refusal.
 abbrev pub Judges : List ℕ → ℕ → ℕ → Judged → Type 0
-Judges text version start (judged.Good rows back) =
-    (rs : List Record) × Spells (record { version = version; start = start; records = rs }) text × (rows ≡ length rs) × (back ≡ stepBack rs)
+Judges text version start (judged.Good rows) =
+    (rs : List Record) × Spells (record { version = version; start = start; records = rs }) text × (rows ≡ length rs)
 Judges text version start (judged.Bad n p) = Refused text n p
 
 -- Some trace is spelled, and the output has room for its records.
@@ -88,6 +96,7 @@ pub record BackAfter (back row before offset b : ℕ) : Type 0 where
   pub found : back ≡ 0 → offset < before → b ≡ row
   pub none : back ≡ 0 → before ≤ offset → b ≡ 0
 
--- The output holds the records of whatever trace the text spells, and behind them what was there.
-pub record Filled (text before after : List ℕ) : Type 0 where
+-- The output holds the records of whatever trace the text spells, and behind them what was there; b is their first step back.
+pub record Filled (text before after : List ℕ) (b : ℕ) : Type 0 where
   pub bytes : (t : Trace) → Spells t text → after ≡ packed (t .records) ++ drop (20 * length (t .records)) before
+  pub back : (t : Trace) → Spells t text → b ≡ stepBack (t .records)

@@ -5,15 +5,16 @@ use lines::StartTime;
 use record::of_fields;
 use record::put_record;
 use row::row_in;
+use row::taken_in;
 use row::window;
 ghost use mathlib.Core.Path.{_≡_};
 ghost use mathlib.Core.List.{List, _++_};
-ghost use Prim.Native.Nat.{_*_, _≤_, _<_};
+ghost use Prim.Native.Nat.{ℕ, _*_, _≤_, _<_};
 ghost use lib.ListN.{length, drop};
 ghost use Rattle.record.specs.declared.Record.{Record as AnyRecord};
 ghost use Rattle.trace.specs.Trace.{sizeLimit, Spells};
 ghost use Rattle.trace.specs.Promise.{packed, readNumbers, ReadPromise};
-ghost use Rattle.trace.specs.Passes.{Windowed, RowAt, Says, Versioned, Headed, Heads, Judges, Fits, BackAfter, Filled};
+ghost use Rattle.trace.specs.Passes.{Windowed, Rowed, RowAt, Says, Versioned, Headed, Heads, Judges, Fits, BackAfter, Filled};
 
 // The answer of `read`.
 pub enum Outcome {
@@ -41,9 +42,9 @@ pub enum Heading {
     Bad { number: u64, place: u64 },
 }
 
-// The whole text: how many rows, and the first step back; or a refusal.
+// The whole text: how many rows; or a refusal.
 pub enum Judged {
-    Good { rows: u64, back: u64 },
+    Good { rows: u64 },
     Bad { number: u64, place: u64 },
 }
 
@@ -160,6 +161,16 @@ fn row_at(
     at + e + 1
 }
 
+// Takes the fields of a row of a version, which was judged, from its place, and gives the place of the next line.
+fn taken_at(text: &[u8], at: usize, version: u64, w: &mut [u8; 256], fields: &mut [u64; 7]) -> usize
+    requires { ⌜ ((k : ℕ) × Rowed (now text) at version k) ⌝ }
+    ensures { λ n. ⌜ ((k : ℕ) → Rowed (now (text .entry)) at version k → RowAt (now (text .entry)) at version k (now (fields .exit)) n × (0 < n)) ⌝ }
+{
+    window_at(text, at, w);
+    let e = taken_in(w, version, fields);
+    at + e + 1
+}
+
 // What the line at a place is, if it is no row.
 fn other_at(text: &[u8], at: usize) -> Other
     requires { ⌜ at ≤ length (now text) ⌝ }
@@ -193,7 +204,8 @@ fn back_after(back: u64, row: u64, before: u64, offset: u64) -> u64
     0
 }
 
-// The first pass, from line 3 on: every line is judged, and the rows are counted.
+// The first pass, from line 3 on: every line is judged, and the rows are counted. No field of a row is used here, so that the compiler leaves
+// out what would only serve their values.
 fn judge(text: &[u8], from: usize, version: u64, start: u64) -> Judged
     requires { ⌜ Headed (now text) from version start × (length (now text) ≤ sizeLimit) ⌝ }
     ensures { λ j. ⌜ Judges (now (text .entry)) version start j ⌝ }
@@ -201,8 +213,6 @@ fn judge(text: &[u8], from: usize, version: u64, start: u64) -> Judged
     let mut at = from;
     let mut place: u64 = 2;
     let mut rows: u64 = 0;
-    let mut last: u64 = 0;
-    let mut back: u64 = 0;
     let mut w = [0u8; 256];
     let mut fields = [0u64; 7];
     while at < text.len() {
@@ -220,43 +230,47 @@ fn judge(text: &[u8], from: usize, version: u64, start: u64) -> Judged
             }
         } else {
             rows += 1;
-            back = back_after(back, rows, last, fields[0]);
-            last = fields[0];
             at = next;
         }
     }
-    Judged::Good { rows, back }
+    Judged::Good { rows }
 }
 
-// The second pass: the records of the rows are packed into the output, which has room for them. No line is refused any more.
-fn fill(text: &[u8], from: usize, version: u64, start: u64, out: &mut [u8])
+// The second pass: the records of the rows are packed into the output, which has room for them, and the first step back is found. No line is
+// refused any more: what starts with `;` is a comment, and all else a row.
+fn fill(text: &[u8], from: usize, version: u64, start: u64, out: &mut [u8]) -> u64
     requires { ⌜ Headed (now text) from version start × Fits (now text) (now out) version start ⌝ }
-    ensures { λ _. ⌜ Filled (now (text .entry)) (now (out .entry)) (now (out .exit)) ⌝ }
+    ensures { λ b. ⌜ Filled (now (text .entry)) (now (out .entry)) (now (out .exit)) b ⌝ }
 {
     let mut at = from;
     let mut done: u64 = 0;
     let mut o = 0;
+    let mut last: u64 = 0;
+    let mut back: u64 = 0;
     let mut w = [0u8; 256];
     let mut fields = [0u64; 7];
     while at < text.len() {
-        let next = row_at(text, at, version, done + 1, &mut w, &mut fields);
-        if next == 0 {
+        if text[at] == 59 {
             let l = other_at(text, at);
             match l {
                 Other::Note(after) => {
                     at = after;
                 }
                 Other::Bad(_) => {
-                    return;
+                    return 0;
                 }
             }
         } else {
+            let next = taken_at(text, at, version, &mut w, &mut fields);
             put_record(out, o, of_fields(&fields));
             done += 1;
+            back = back_after(back, done, last, fields[0]);
+            last = fields[0];
             o += 20;
             at = next;
         }
     }
+    back
 }
 
 // From line 3 on: the two passes.
@@ -266,14 +280,14 @@ fn body(text: &[u8], at: usize, version: u64, start: u64, out: &mut [u8]) -> Out
 {
     let j = judge(text, at, version, start);
     match j {
-        Judged::Good { rows, back } => {
+        Judged::Good { rows } => {
             if out.len() as u64 / 20 < rows {
                 return Outcome::Refused {
                     number: 8,
                     place: 0,
                 };
             }
-            fill(text, at, version, start, out);
+            let back = fill(text, at, version, start, out);
             Outcome::Done {
                 version,
                 start,

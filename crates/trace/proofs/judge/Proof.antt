@@ -9,10 +9,10 @@ use Rattle.trace.proofs.judge.Statement.{statement}
 use Rattle.trace.proofs.judge.Tie as tie
 
 abbrev Inv-loop : tie.InvT-loop
-Inv-loop text from version start at₀ place₀ rows₀ last₀ back₀ w₀ fields₀ at place rows last back w fields = Judging text version start at place rows last back
+Inv-loop text from version start at₀ place₀ rows₀ w₀ fields₀ at place rows w fields = Judging text version start at place rows
 
 abbrev μ-loop : tie.MeasureT-loop
-μ-loop text from version start at₀ place₀ rows₀ last₀ back₀ w₀ fields₀ at place rows last back w fields = length text - at
+μ-loop text from version start at₀ place₀ rows₀ w₀ fields₀ at place rows w fields = length text - at
 
 pub judge-spec : {M : Type 1} → statement M
 judge-spec =
@@ -29,9 +29,6 @@ judge-spec =
     (λ c. search needs)
     (λ c. refused-line (c .before .before .before .before .before .before .before .before .before .loop .inv) (c .before .before .before .before .before .before .before .before .before .before .before .pre .1) (c .before .before .before .before .before .before .before .before .loop-test .taken) (not-found (c .before .before .before .before .before .row-at .ensures) (c .before .before .before .before .if1 .taken)) (rw (c .before .l2 .given .1) at (c .before .before .before .other-at .ensures)))
     (λ c. let j = c .before .before .before .before .before .loop .inv .few in omega (arith, c .before .before .before .before .loop-test .taken))
-    (λ c. omega arith)
-    (λ c κs. search needs)
-    (λ c. omega arith)
-    (λ c. let t = was-found (c .before .before .row-at .ensures) (c .before .if1 .left) .there in let a = t .later in let b = t .within in omega arith)
-    (λ c. let f = was-found (c .before .before .row-at .ensures) (c .before .if1 .left) in counted-row (c .before .before .before .before .before .before .loop .inv) _ (f .line) (f .there) (f .row) (c .back-after .ensures))
+    (λ c. let t = was-found (c .before .row-at .ensures) (c .if1 .left) .there in let a = t .later in let b = t .within in omega arith)
+    (λ c. let f = was-found (c .before .row-at .ensures) (c .if1 .left) in counted-row (c .before .before .before .before .before .loop .inv) _ (f .line) (f .there) (f .row))
     (λ c. finished (c .before .loop .inv) (c .loop-test .left)))
