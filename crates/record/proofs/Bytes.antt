@@ -65,6 +65,11 @@ stored k l i n = rw (one-more, sets-append, length-bytes)
 pub stored-none : (l : List ℕ) (i n : ℕ) → sets l i (bytes 0 n) ≡ l
 stored-none l i n = rw none
 
+-- Storing j bytes and then k is storing j + k.
+pub stored-join : (j k : ℕ) (l : List ℕ) (i m n : ℕ) → n < 256 ^ k
+    → sets (sets l i (bytes j m)) (i + j) (bytes k n) ≡ sets l i (bytes (j + k) (m * 256 ^ k + n))
+stored-join j k l i m n h = rw (← join j k m n h, sets-append, length-bytes)
+
 -- Reading k + 1 bytes is reading k and then the last.
 read : (k : ℕ) (l : List ℕ) (i n x : ℕ) → i + k < length l → slice i (i + k) l ≡ bytes k n → x ≡ getD l (i + k) 0
     → x < 256 → slice i (i + suc k) l ≡ bytes (suc k) (n * 256 + x)

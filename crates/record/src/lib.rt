@@ -195,21 +195,8 @@ fn put8(out: &mut [u8], at: usize, n: u64)
     requires { ⌜ at + 8 ≤ length (now out) ⌝ }
     ensures { λ _. ⌜ now (out .exit) ≡ sets (now (out .entry)) at (bytes 8 n) ⌝ }
 {
-    let g = n / 256;
-    let f = g / 256;
-    let e = f / 256;
-    let d = e / 256;
-    let c = d / 256;
-    let b = c / 256;
-    let a = b / 256;
-    out[at] = (a % 256) as u8;
-    out[at + 1] = (b % 256) as u8;
-    out[at + 2] = (c % 256) as u8;
-    out[at + 3] = (d % 256) as u8;
-    out[at + 4] = (e % 256) as u8;
-    out[at + 5] = (f % 256) as u8;
-    out[at + 6] = (g % 256) as u8;
-    out[at + 7] = (n % 256) as u8;
+    put4(out, at, n / 0x1_0000_0000);
+    put4(out, at + 4, n % 0x1_0000_0000);
 }
 
 // The number whose four bytes stand at a position.

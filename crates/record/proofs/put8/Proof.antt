@@ -1,50 +1,23 @@
 -- `record::put8` meets its contract.
+use Prim.Native.Nat.{_*_, _+_, _/_, _%_, _^_}
+use mathlib.Core.Path.{_≡_, _∙_}
 use native.Mathlib.Omega.{arith}
-use native.Mathlib.Nat.{add-zero}
-use lib.ListN.{length-set}
-use Rattle.record.proofs.Bytes.{stored, stored-none}
 use borrow.Author.Needs.{needs}
+use lib.Seq.{sets}
+use Rattle.record.specs.Bytes.{bytes}
+use Rattle.record.proofs.Bytes.{stored-join}
 use Rattle.record.proofs.put8.Statement.{statement}
 use Rattle.record.proofs.put8.Tie as tie
 
 pub put8-spec : {M : Type 1} → statement M
 put8-spec =
-    tie.close (tie.spec
+    tie.close
+    (tie.spec
+    (λ c κs. search needs)
     (λ c. search needs)
+    (λ c κs. search needs)
     (λ c. search needs)
-    (λ c. search needs)
-    (λ c. search needs)
-    (λ c. simp length-set (omega arith))
-    (λ c. search needs)
-    (λ c. search needs)
-    (λ c. simp length-set (omega arith))
-    (λ c. search needs)
-    (λ c. search needs)
-    (λ c. simp length-set (omega arith))
-    (λ c. search needs)
-    (λ c. search needs)
-    (λ c. simp length-set (omega arith))
-    (λ c. search needs)
-    (λ c. search needs)
-    (λ c. simp length-set (omega arith))
-    (λ c. search needs)
-    (λ c. search needs)
-    (λ c. simp length-set (omega arith))
-    (λ c. search needs)
-    (λ c. search needs)
-    (λ c. simp length-set (omega arith))
-    (λ c. simp length-set)
-    (λ c.
-    let a = c .args in
-    rw (
-      stored 7 (a .out .now) (a .at) (a .n),
-      stored 6,
-      stored 5,
-      stored 4,
-      stored 3,
-      stored 2,
-      stored 1,
-      stored 0,
-      stored-none,
-      add-zero,
-    )))
+    (λ c. let a = c .before .before .before .before .before .before .before .before .before .args in
+    let e : (a .n / 4294967296) * 256 ^ 4 + a .n % 4294967296 ≡ a .n = omega arith in
+    rw (c .before .before .put42 .ensures, c .before .before .before .before .before .before .put4 .ensures,
+      stored-join 4 4 (a .out .now) (a .at) (a .n / 4294967296) (a .n % 4294967296) (omega arith), e)))
