@@ -2,7 +2,6 @@ pub mod Columns
 pub mod DigitFields
 pub mod Digits
 pub mod FixedFields
-pub mod Judged
 pub mod Parts
 pub mod Runs
 pub mod Scans

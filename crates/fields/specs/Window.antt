@@ -50,15 +50,6 @@ pub record Starts (w : List ℕ) (at : ℕ) : Type 0 where
   pub lined : Lined (drop at w)
   pub solid : Solid (getD w at 0)
 
--- The field at this place was judged: it has P of some value, and its line ends behind it.
-pub record Judged (P : ℕ → List ℕ → Type 0) (w : List ℕ) (at : ℕ) : Type 0 where
-  pub value : ℕ
-  pub field : List ℕ
-  pub rest : List ℕ
-  pub there : FieldAt field rest (drop at w)
-  pub is : P value field
-  pub lined : Lined (drop at w)
-
 -- The field at this place has P of the value, and ends before s .end; or s .end is 0 and it has P of none.
 pub data Takes (P : ℕ → List ℕ → Type 0) (w : List ℕ) (at : ℕ) (s : Scan) : Type 0 where
   taken : {f : List ℕ} → FieldAt f (drop (s .end) w) (drop at w) → s .end ≡ at + length f → P (s .value) f → Takes P w at s

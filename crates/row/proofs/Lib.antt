@@ -9,7 +9,6 @@ pub mod Moves
 pub mod One
 pub mod Plain
 pub mod Spelled
-pub mod Taking
 pub mod Texts
 pub mod Warnings
 pub mod Whole

@@ -2,4 +2,3 @@ pub mod Row
 pub mod House
 pub mod Answer
 pub mod Stages
-pub mod Taking

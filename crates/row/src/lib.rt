@@ -1,13 +1,12 @@
 // One row of a trace, read into a record.
 mod reader;
 mod stages;
-mod taker;
 
 pub use reader::read_row;
 pub use reader::row_in;
+pub use reader::skip;
 pub use reader::window;
 use record::Record;
-pub use taker::taken_in;
 
 // A record, or not a row.
 pub enum Reading {

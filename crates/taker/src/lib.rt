@@ -1,0 +1,213 @@
+// Takes a row apart that was judged: nothing is tested that its being a row says, and every value goes on as a number.
+use fields::Scan;
+use row::skip;
+ghost use mathlib.Core.Path.{_≡_};
+ghost use mathlib.Core.List.{List, [], _∷_};
+ghost use Prim.Native.Nat.{ℕ, suc, _+_, _≤_};
+ghost use lib.ListN.{length, drop};
+ghost use Rattle.record.specs.declared.Record.{Record};
+ghost use Rattle.record.specs.Promise.{fieldsOf};
+ghost use Rattle.fields.specs.Window.{LineOf, Lined};
+ghost use Rattle.row.specs.Row.{Row, FromOffset};
+ghost use Rattle.taker.specs.Taking.{Goes, Told, AtBus, AtMark, AtId, AtLength, AtData, AtBytes, HasBytes, Gathered};
+
+// The place value of the first of eight data bytes: 256 ^ 7.
+const FIRST_PLACE: u64 = 72057594037927936;
+
+// One more than the place of the CR that ends the line. What is passed may be a warning's words, and blanks.
+fn line_end(w: &[u8; 256], at: usize) -> usize
+    requires { ⌜ Lined (drop at (now w)) ⌝ }
+    ensures { λ e. ⌜ ((line : List ℕ) → LineOf line (drop at (now (w .entry))) → e ≡ suc (at + length line)) ⌝ }
+{
+    let bytes: &[u8] = w;
+    let mut i = at;
+    while bytes[i] != 13 {
+        i += 1;
+    }
+    i + 1
+}
+
+// Puts the fields of a record.
+fn put(
+    offset: u64,
+    bus: u64,
+    kind: u64,
+    extended: u64,
+    id: u64,
+    len: u64,
+    data: u64,
+    out: &mut [u64; 7],
+)
+    ensures { λ _. ⌜ now (out .exit) ≡ offset ∷ bus ∷ kind ∷ extended ∷ id ∷ len ∷ «data» ∷ [] ⌝ }
+{
+    let slots: &mut [u64] = out;
+    slots[0] = offset;
+    slots[1] = bus;
+    slots[2] = kind;
+    slots[3] = extended;
+    slots[4] = id;
+    slots[5] = len;
+    slots[6] = data;
+}
+
+// The sum of n data bytes by place value, and the place behind them.
+fn gather(w: &[u8; 256], at: usize, n: u64) -> Scan
+    requires { ⌜ HasBytes n (now w) at ⌝ }
+    ensures { λ s. ⌜ Gathered n (now (w .entry)) at s ⌝ }
+{
+    let mut data = 0;
+    let mut place = FIRST_PLACE;
+    let mut left = n;
+    let mut end = at;
+    while left != 0 {
+        let a = skip(w, end);
+        data += judged::pair_at(w, a) * place;
+        place /= 256;
+        left -= 1;
+        end = a + 2;
+    }
+    Scan { end, value: data }
+}
+
+// From the data bytes on.
+fn from_bytes(
+    w: &[u8; 256],
+    at: usize,
+    offset: u64,
+    bus: u64,
+    kind: u64,
+    extended: u64,
+    id: u64,
+    len: u64,
+    out: &mut [u64; 7],
+) -> usize
+    requires { ⌜ Goes (AtBytes offset bus kind extended id len) (now w) at ⌝ }
+    ensures { λ e. ⌜ Told (AtBytes offset bus kind extended id len) (now (w .entry)) at (now (out .exit)) e ⌝ }
+{
+    let s = gather(w, at, len);
+    put(offset, bus, kind, extended, id, len, s.value, out);
+    line_end(w, s.end)
+}
+
+// From the data of a frame on. `RTR` is told by its first byte, which is no hexadecimal digit.
+fn from_data(
+    w: &[u8; 256],
+    at: usize,
+    sent: u64,
+    offset: u64,
+    bus: u64,
+    extended: u64,
+    id: u64,
+    len: u64,
+    out: &mut [u64; 7],
+) -> usize
+    requires { ⌜ Goes (AtData sent offset bus extended id len) (now w) at × (sent ≤ 1) ⌝ }
+    ensures { λ e. ⌜ Told (AtData sent offset bus extended id len) (now (w .entry)) at (now (out .exit)) e ⌝ }
+{
+    let a = skip(w, at);
+    let bytes: &[u8] = w;
+    if bytes[a] == 82 {
+        put(offset, bus, sent + 2, extended, id, len, 0, out);
+        return line_end(w, a);
+    }
+    from_bytes(w, a, offset, bus, sent, extended, id, len, out)
+}
+
+// From the length on: frames, warnings and error frames part here. An ID of eight digits is extended.
+fn from_length(
+    w: &[u8; 256],
+    at: usize,
+    mark: u64,
+    offset: u64,
+    bus: u64,
+    width: usize,
+    id: u64,
+    out: &mut [u64; 7],
+) -> usize
+    requires { ⌜ Goes (AtLength mark offset bus width id) (now w) at ⌝ }
+    ensures { λ e. ⌜ Told (AtLength mark offset bus width id) (now (w .entry)) at (now (out .exit)) e ⌝ }
+{
+    let a = skip(w, at);
+    let s = judged::length_at(w, a);
+    if mark <= 1 {
+        return from_data(
+            w,
+            s.end,
+            mark,
+            offset,
+            bus,
+            (width / 8) as u64,
+            id,
+            s.value,
+            out,
+        );
+    }
+    if mark == 2 {
+        return from_bytes(w, s.end, offset, bus, 4, 0, 0, 4, out);
+    }
+    from_bytes(w, s.end, offset, bus, 5, 0, id, 4, out)
+}
+
+// From the ID on.
+fn from_id(w: &[u8; 256], at: usize, mark: u64, offset: u64, bus: u64, out: &mut [u64; 7]) -> usize
+    requires { ⌜ Goes (AtId mark offset bus) (now w) at ⌝ }
+    ensures { λ e. ⌜ Told (AtId mark offset bus) (now (w .entry)) at (now (out .exit)) e ⌝ }
+{
+    let a = skip(w, at);
+    let s = judged::hex_at(w, a);
+    let e = s.end;
+    from_length(w, e, mark, offset, bus, e - a, s.value, out)
+}
+
+// From the mark on.
+fn from_mark(w: &[u8; 256], at: usize, offset: u64, bus: u64, out: &mut [u64; 7]) -> usize
+    requires { ⌜ Goes (AtMark offset bus) (now w) at ⌝ }
+    ensures { λ e. ⌜ Told (AtMark offset bus) (now (w .entry)) at (now (out .exit)) e ⌝ }
+{
+    let a = skip(w, at);
+    let s = judged::mark_at(w, a);
+    from_id(w, s.end, s.value, offset, bus, out)
+}
+
+// From the bus on.
+fn from_bus(w: &[u8; 256], at: usize, offset: u64, out: &mut [u64; 7]) -> usize
+    requires { ⌜ Goes (AtBus offset) (now w) at ⌝ }
+    ensures { λ e. ⌜ Told (AtBus offset) (now (w .entry)) at (now (out .exit)) e ⌝ }
+{
+    let a = skip(w, at);
+    let s = judged::bus_at(w, a);
+    from_mark(w, s.end, offset, s.value, out)
+}
+
+// From the offset on in version 1.1, where the bus is 0.
+fn from_offset11(w: &[u8; 256], at: usize, out: &mut [u64; 7]) -> usize
+    requires { ⌜ Goes (λ r fs. FromOffset r 11 fs) (now w) at ⌝ }
+    ensures { λ e. ⌜ Told (λ r fs. FromOffset r 11 fs) (now (w .entry)) at (now (out .exit)) e ⌝ }
+{
+    let a = skip(w, at);
+    let s = judged::offset_at(w, a, 1);
+    from_mark(w, s.end, s.value, 0, out)
+}
+
+// The same in version 1.2.
+fn from_offset12(w: &[u8; 256], at: usize, out: &mut [u64; 7]) -> usize
+    requires { ⌜ Goes (λ r fs. FromOffset r 12 fs) (now w) at ⌝ }
+    ensures { λ e. ⌜ Told (λ r fs. FromOffset r 12 fs) (now (w .entry)) at (now (out .exit)) e ⌝ }
+{
+    let a = skip(w, at);
+    let s = judged::offset_at(w, a, 3);
+    from_bus(w, s.end, s.value, out)
+}
+
+// Takes a judged row of a version apart: one more than the place of its CR, and the record's fields in `out`. The row number needs no look.
+pub fn taken_in(w: &[u8; 256], version: u64, out: &mut [u64; 7]) -> usize
+    requires { ⌜ ((k : ℕ) × (r : Record) × (line : List ℕ) × LineOf line (now w) × Row version k r line) ⌝ }
+    ensures { λ e. ⌜ ((k : ℕ) (r : Record) (line : List ℕ) → LineOf line (now (w .entry)) → Row version k r line → (e ≡ suc (length line)) × (now (out .exit) ≡ fieldsOf r)) ⌝ }
+{
+    let a = skip(w, 0);
+    let e = judged::field_end(w, a);
+    if version == 11 {
+        return from_offset11(w, e, out);
+    }
+    from_offset12(w, e, out)
+}
