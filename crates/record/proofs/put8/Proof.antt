@@ -19,5 +19,9 @@ put8-spec =
     (λ c. search needs)
     (λ c. let a = c .before .before .before .before .before .before .before .before .before .args in
     let e : (a .n / 4294967296) * 256 ^ 4 + a .n % 4294967296 ≡ a .n = omega arith in
-    rw (c .before .before .put42 .ensures, c .before .before .before .before .before .before .put4 .ensures,
-      stored-join 4 4 (a .out .now) (a .at) (a .n / 4294967296) (a .n % 4294967296) (omega arith), e)))
+    rw (
+      c .before .before .put42 .ensures,
+      c .before .before .before .before .before .before .put4 .ensures,
+      stored-join 4 4 (a .out .now) (a .at) (a .n / 4294967296) (a .n % 4294967296) (omega arith),
+      e,
+    )))
