@@ -12,7 +12,7 @@ use crate::words::front;
 use crate::writing::exported;
 use crate::writing::written;
 use record::Unpacked;
-use row::Reading;
+use row_reader::Reading;
 use trace::Outcome;
 ghost use mathlib.Core.Path.{_≡_};
 ghost use lib.ListN.{length};
@@ -162,7 +162,7 @@ pub(crate) fn row(line: &[u8]) {
 
 // A row by itself, in version 1.2, where the row with number n is expected.
 pub(crate) fn numbered(line: &[u8], n: u64) {
-    let a = row::read_row(named(line), 12, n);
+    let a = row_reader::read_row(named(line), 12, n);
     match a {
         Reading::Is(r) => {
             text(b"taken: ");

@@ -13,7 +13,7 @@ use Rattle.fields.specs.Columns.{OffsetField, IdField, standard, long, lastNumb
 use Rattle.record.specs.declared.Record.{Record}
 use Rattle.record.specs.Record.{offsetLimit, ErrorId, one, two, four, eight, WellFormed}
 use Rattle.row.specs.Row
-use Rattle.row.specs.Answer.{Carries, v11, v12}
+use Rattle.row.specs.Carries.{Carries, v11, v12}
 
 -- Place value: a sum of n bytes, at most m + 1, of which the first has the place value 256 ^ m, fits m + 1 bytes, and those past the n are
 -- zero.

@@ -1,5 +1,4 @@
 pub mod Columns
-pub mod Cycle
 pub mod Data
 pub mod Ending
 pub mod Fields
@@ -11,4 +10,3 @@ pub mod Plain
 pub mod Spelled
 pub mod Texts
 pub mod Warnings
-pub mod Whole

@@ -14,10 +14,7 @@ use Rattle.fields.proofs.Scans.{digits-all}
 use Rattle.record.specs.declared.Record.{Record}
 use Rattle.record.specs.Promise.{fieldsOf}
 use Rattle.record.proofs.Promises.{same-fields}
-use Rattle.row.specs.declared.Reading.{Reading}
-use Rattle.row.specs.declared.Reading.the-variants.{Is, Not}
 use Rattle.row.specs.Row
-use Rattle.row.specs.Answer.{ReadsRow}
 use Rattle.row.proofs.Columns.{AfterMark, received, sent, warned, failed, mark-of}
 
 -- The data.
@@ -120,10 +117,3 @@ version-only a b = go (rw (parted-one (a .parted) (b .parted)) at (a .row)) (b .
     go (Row.number n (Row.one o b h)) (Row.number m (Row.three p c)) = absurd (omega (arith, width-one o p))
     go (Row.number n (Row.three o b)) (Row.number m (Row.one p c k)) = absurd (omega (arith, width-one o p))
     go (Row.number n (Row.three o b)) (Row.number m (Row.three p c)) = refl
-
--- The reader's promise leaves one answer only.
-pub one-reading : (v k : ℕ) (line : List ℕ) (a b : Reading) → ReadsRow v k line a → ReadsRow v k line b → a ≡ b
-one-reading v k line (Is r) (Is q) a b = ap Is (row-one (a .1) (b .1))
-one-reading v k line (Is r) Not a b = absurd (b r (a .0) (a .1))
-one-reading v k line Not (Is q) a b = absurd (a q (b .0) (b .1))
-one-reading v k line Not Not a b = refl

@@ -17,7 +17,7 @@ use Rattle.fields.proofs.Runs.{all-map}
 use Rattle.record.specs.declared.Record.{Record}
 use Rattle.record.specs.Record.{offsetLimit, one, eight, WellFormed}
 use Rattle.row.specs.Row
-use Rattle.row.specs.Answer.{Carries, v11, v12}
+use Rattle.row.specs.Carries.{Carries, v11, v12}
 use Rattle.row.specs.House.{numberText, markText, idText, byteTexts, dataTexts, rowTexts, rowText}
 use Rattle.row.proofs.Fields.{each-map}
 use Rattle.row.proofs.Formed.{error-small}

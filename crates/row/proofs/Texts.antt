@@ -19,7 +19,7 @@ use Rattle.fields.proofs.Parts.{first}
 use Rattle.record.specs.declared.Record.{Record}
 use Rattle.record.specs.Record.{offsetLimit, WellFormed}
 use Rattle.row.specs.House.{joined, numberText, offsetText, busTexts, marks, markText, idText, byteTexts, dataTexts, fractionDigits, rowTexts}
-use Rattle.row.specs.Answer.{Carries, v11, v12}
+use Rattle.row.specs.Carries.{Carries, v11, v12}
 use Rattle.row.proofs.Fields.{Each, no-more, then}
 
 -- Joined fields, case by case.

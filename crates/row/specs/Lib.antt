@@ -1,4 +1,4 @@
 pub mod Row
 pub mod House
-pub mod Answer
+pub mod Carries
 pub mod Stages

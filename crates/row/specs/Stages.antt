@@ -1,24 +1,17 @@
--- The stages of the row reader: what its functions promise each other. Of the crate's public promises only that of `row_in` cites this file
--- (`RowFound`).
-use Prim.Native.Nat.{ℕ, suc, _+_, _*_, _-_, _/_, _^_, _≤_}
+-- The stages of the row reader: what its functions promise each other, and the cycle that calls them.
+use Prim.Native.Nat.{ℕ, _+_, _*_, _-_, _/_, _^_, _≤_}
 use mathlib.Core.Path.{_≡_}
-use mathlib.Core.Logic.{_≢_}
 use mathlib.Core.Bool.{Bool, true, false}
 use mathlib.Core.List.{List, [], _∷_}
-use lib.ListN.{length, getD, drop}
-use lib.Seq.{slice}
+use lib.ListN.{length, drop}
 use Rattle.digits.specs.Digits.{Hex}
 use Rattle.record.specs.declared.Record.{Record}
-use Rattle.record.specs.Promise.{fieldsOf}
 use Rattle.row.specs.declared.Stage.{Stage}
 use Rattle.row.specs.declared.Stage.the-variants as stage
 use Rattle.row.specs.declared.Part.{Part}
 use Rattle.row.specs.declared.Step.{Step}
-use Rattle.fields.specs.Parted.{Parted}
-use Rattle.fields.specs.Runs.{All}
-use Rattle.fields.specs.Window.{Lined, FieldAt}
+use Rattle.fields.specs.Window.{FieldAt}
 use Rattle.row.specs.Row.{
-  Row,
   RowFields,
   FromOffset,
   FromBus,
@@ -134,36 +127,7 @@ pub data Byted (w : List ℕ) (at : ℕ) (next : Stage) (p : Part) (t : Step) : 
   one-byte : {f : List ℕ} {v : ℕ} → FieldAt f (drop (t .at) w) (drop at w) → t .at ≡ at + length f → Hex 2 v f
       → t .part ≡ record { stage = next; left = p .left - 1; place = p .place / 256; r = plus (p .r) (v * p .place) } → Byted w at next p t
 
--- The blanks from `at` on end at a.
-pub record Skipped (w : List ℕ) (at a : ℕ) : Type 0 where
-  pub from : at ≤ a
-  pub blanks : All (λ b. b ≡ 32) (slice at a w)
-  pub stop : getD w a 0 ≢ 32
-  pub lined : Lined (drop a w)
-
--- The state as the cycle carries it, number by number.
-abbrev pub part : Stage → ℕ → ℕ → ℕ → ℕ → ℕ → ℕ → ℕ → ℕ → ℕ → Part
-part stage left place offset bus kind extended id len word =
-    record {
-      stage = stage;
-      left = left;
-      place = place;
-      r = record { offset = offset; bus = bus; kind = kind; extended = extended; id = id; len = len; «data» = word };
-    }
-
 -- Where the line ends at stage x: the record is whole, or too little was read.
 pub data Ends (x : Stage) (p : Part) : Bool → Type 0 where
   whole : continues x p [] (p .r) → ((r : Record) → continues x p [] r → r ≡ p .r) → Ends x p true
   early : ((r : Record) → continues x p [] r → ⊥) → Ends x p false
-
--- Reading the line on from the state p at `at` gives e: 0 if it ends in no record, else one more than the place of its CR, and then the
--- record's fields stand in `out`.
-pub data Finds (p : Part) (at : ℕ) (line out : List ℕ) (e : ℕ) : Type 0 where
-  found : {fs : List (List ℕ)} {r : Record} → Parted fs line → Continues p fs r → out ≡ fieldsOf r → e ≡ suc (at + length line)
-      → Finds p at line out e
-  none : e ≡ 0 → ((fs : List (List ℕ)) (r : Record) → Parted fs line → Continues p fs r → ⊥) → Finds p at line out e
-
--- The same for a whole line, read as row k of a version.
-pub data RowFound (v k : ℕ) (line out : List ℕ) (e : ℕ) : Type 0 where
-  row-found : {r : Record} → Row v k r line → out ≡ fieldsOf r → e ≡ suc (length line) → RowFound v k line out e
-  no-row : e ≡ 0 → ((r : Record) → Row v k r line → ⊥) → RowFound v k line out e

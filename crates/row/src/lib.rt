@@ -1,18 +1,9 @@
-// One row of a trace, read into a record.
-mod reader;
+// One row of a trace: the stages in which it is read.
 mod stages;
 
-pub use reader::read_row;
-pub use reader::row_in;
-pub use reader::skip;
-pub use reader::window;
 use record::Record;
-
-// A record, or not a row.
-pub enum Reading {
-    Is(Record),
-    Not,
-}
+pub use stages::complete;
+pub use stages::take_field;
 
 // Where the reader is in the columns of a row: what the next field is.
 pub enum Stage {

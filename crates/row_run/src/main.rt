@@ -1,6 +1,6 @@
 // Reads lines as rows, on either side of every limit: one line a case. What it prints is compared with `stdout`.
 use libc::STDOUT_FILENO;
-use row::Reading;
+use row_reader::Reading;
 
 fn text(s: &[u8]) {
     io::write_all(STDOUT_FILENO, s);
@@ -18,7 +18,7 @@ fn case(version: u64, k: u64, line: &[u8]) {
     text(b" \"");
     text(line);
     text(b"\":");
-    let a = row::read_row(line, version, k);
+    let a = row_reader::read_row(line, version, k);
     match a {
         Reading::Is(r) => {
             number(r.offset);

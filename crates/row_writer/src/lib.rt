@@ -16,7 +16,7 @@ ghost use Rattle.digits.specs.declared.Letters.{Letters};
 ghost use Rattle.digits.specs.declared.Letters.the-variants.{Capital};
 ghost use Rattle.digits.specs.House.{decimalText, hexText, PairsOf};
 ghost use Rattle.record.specs.Record.{WellFormed};
-ghost use Rattle.row.specs.Answer.{Carries};
+ghost use Rattle.row.specs.Carries.{Carries};
 ghost use Rattle.row.specs.House.{joined, numberText, offsetText, busTexts, markText, idText, byteTexts, dataTexts, rowText};
 ghost use Rattle.row_writer.specs.Parts.{spaced, headTexts, frameTexts};
 

@@ -5,7 +5,7 @@ use record::Record;
 ghost use Prim.Native.Nat.{_≤_};
 ghost use lib.ListN.{length};
 ghost use Rattle.record.specs.Record.{WellFormed};
-ghost use Rattle.row.specs.Answer.{Carries};
+ghost use Rattle.row.specs.Carries.{Carries};
 
 fn text(s: &[u8]) {
     io::write_all(STDOUT_FILENO, s);

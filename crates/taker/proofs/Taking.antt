@@ -22,10 +22,10 @@ use Rattle.fields.proofs.Runs.{all-map}
 use Rattle.fields.proofs.Window.{inside, field-one, next-line}
 use Rattle.record.specs.declared.Record.{Record}
 use Rattle.row.specs.Row
-use Rattle.row.specs.Stages.{Skipped}
+use Rattle.row_reader.specs.Reader.{Skipped}
 use Rattle.taker.specs.Taking.{Held, Goes, Told, AtBus, AtMark, AtId, AtLength, AtData, Any, any, AtBytes, HasBytes, Gathered}
 use Rattle.row.proofs.Columns.{after-number, after-one, after-three, after-bus, after-id, after-length, AfterMark, received, sent, warned, failed, after-mark, some-mark, frame-of, warning-of, error-of, Form, four, eight, form, some-id}
-use Rattle.row.proofs.Cycle.{peel, ends-here, after-gap, solid-plain, solid-dark, parts-here, first-field}
+use Rattle.row_reader.proofs.Cycle.{peel, ends-here, after-gap, solid-plain, solid-dark, parts-here, first-field}
 use Rattle.row.proofs.Warnings.{hex-field, after-warning-id, after-warning-length, after-error-id, after-error-length}
 
 -- What is left of the line.

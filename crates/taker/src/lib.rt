@@ -1,6 +1,6 @@
 // Takes a row apart that was judged: nothing is tested that its being a row says, and every value goes on as a number.
 use fields::Scan;
-use row::skip;
+use row_reader::skip;
 ghost use mathlib.Core.Path.{_≡_};
 ghost use mathlib.Core.List.{List, [], _∷_};
 ghost use Prim.Native.Nat.{ℕ, suc, _+_, _≤_};

@@ -15,7 +15,7 @@ use Rattle.record.specs.declared.Record.{Record}
 use Rattle.record.specs.Bytes.{bytes}
 use Rattle.record.specs.Record.{WellFormed, number}
 use Rattle.record.proofs.Bytes.{byte-below}
-use Rattle.row.specs.Answer.{Carries, v12}
+use Rattle.row.specs.Carries.{Carries, v12}
 use Rattle.row.specs.House.{joined, numberText, offsetText, busTexts, markText, idText, byteTexts, dataTexts, rowTexts}
 use Rattle.trace.specs.Trace.{Trace}
 use Rattle.trace.specs.Promise.{packed}

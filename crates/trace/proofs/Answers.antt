@@ -6,7 +6,7 @@ use mathlib.Core.List.{List, [], _∷_, _++_, append-assoc, append-nil}
 use native.Mathlib.Decide.{decLt}
 use native.Mathlib.Omega.{arith}
 use lib.ListN.{length, drop}
-use Rattle.row.specs.Answer.{lineLimit}
+use Rattle.row_reader.specs.Answer.{lineLimit}
 use Rattle.lines.specs.Lines.{FirstLine, DollarLine}
 use Rattle.trace.specs.declared.Outcome.the-variants as outcome
 use Rattle.trace.specs.Trace.{sizeLimit, Trace, Line, Spells, Begins}

@@ -5,7 +5,7 @@ use mathlib.Core.List.{List, [], _∷_, _++_, append-assoc, append-nil}
 use native.Mathlib.Omega.{arith}
 use lib.ListN.{length, length-append}
 use Rattle.record.specs.declared.Record.{Record}
-use Rattle.row.specs.Answer.{lineLimit}
+use Rattle.row_reader.specs.Answer.{lineLimit}
 use Rattle.lines.specs.Lines.{one, FirstLine, VersionLine}
 use Rattle.trace.specs.Trace.{sizeLimit, Trace, Line, Body, over, comment, row, Spells, Begins}
 use Rattle.trace.specs.Promise.{Lines, none, line}

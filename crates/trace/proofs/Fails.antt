@@ -7,7 +7,7 @@ use native.Mathlib.Omega.{arith}
 use lib.ListN.{length, length-append}
 use Rattle.record.specs.declared.Record.{Record}
 use Rattle.fields.specs.Runs.{All}
-use Rattle.row.specs.Answer.{lineLimit}
+use Rattle.row_reader.specs.Answer.{lineLimit}
 use Rattle.row.specs.Row.{Row}
 use Rattle.lines.specs.Lines.{Inside, FirstLine, VersionLine, StartLine, Comment, DollarLine}
 use Rattle.trace.specs.Trace.{sizeLimit, Trace, Line, Body, Spells, Begins}

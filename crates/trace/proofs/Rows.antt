@@ -14,9 +14,9 @@ use Rattle.record.specs.declared.Record.{Record}
 use Rattle.record.specs.Promise.{fieldsOf}
 use Rattle.record.specs.Record.{recordOf}
 use Rattle.row.specs.Row.{Row}
-use Rattle.row.specs.Stages.{RowFound, row-found, no-row}
 use Rattle.row.proofs.Plain.{row-plain}
-use Rattle.row.proofs.Whole.{framed}
+use Rattle.row_reader.specs.Answer.{RowFound, row-found, no-row}
+use Rattle.row_reader.proofs.Whole.{framed}
 use Rattle.lines.specs.Lines.{FirstLine}
 use Rattle.trace.specs.Trace.{Line}
 use Rattle.trace.specs.Passes.{There, Windowed, Rowed, NoRow, RowAt, here, nowhere}

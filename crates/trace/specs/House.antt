@@ -9,7 +9,7 @@ use Rattle.clock.specs.Start.{dayMs, startLimit}
 use Rattle.fields.specs.Columns.{lastNumber}
 use Rattle.record.specs.declared.Record.{Record}
 use Rattle.record.specs.Record.{WellFormed}
-use Rattle.row.specs.Answer.{Carries}
+use Rattle.row.specs.Carries.{Carries}
 use Rattle.row.specs.House.{rowText}
 use Rattle.lines.specs.Lines.{startText}
 use Rattle.trace.specs.Trace.{Trace}

@@ -5,7 +5,7 @@ use mathlib.Core.List.{List, [], _∷_, _++_}
 use lib.ListN.{length, take, drop}
 use Rattle.record.specs.declared.Record.{Record}
 use Rattle.record.specs.Promise.{fieldsOf}
-use Rattle.row.specs.Answer.{lineLimit}
+use Rattle.row_reader.specs.Answer.{lineLimit}
 use Rattle.row.specs.Row.{Row}
 use Rattle.lines.specs.Lines.{FirstLine, VersionLine, Comment, DollarLine}
 use Rattle.trace.specs.declared.Other.{Other}

@@ -9,7 +9,7 @@ use lib.ListN.{length, drop}
 use Rattle.record.specs.declared.Record.{Record}
 use Rattle.record.specs.Bytes.{bytes}
 use Rattle.record.specs.Record.{number}
-use Rattle.row.specs.Answer.{lineLimit}
+use Rattle.row_reader.specs.Answer.{lineLimit}
 use Rattle.trace.specs.declared.Outcome.{Outcome}
 use Rattle.trace.specs.declared.Outcome.the-variants as outcome
 use Rattle.lines.specs.Lines.{FirstLine, DollarLine}

@@ -4,7 +4,7 @@ use mathlib.Core.Path.{_≡_}
 use mathlib.Core.List.{List, [], _∷_, _++_}
 use lib.ListN.{length}
 use Rattle.record.specs.declared.Record.{Record}
-use Rattle.row.specs.Answer.{lineLimit}
+use Rattle.row_reader.specs.Answer.{lineLimit}
 use Rattle.row.specs.Row.{Row}
 use Rattle.lines.specs.Lines.{FirstLine, VersionLine, StartLine, Comment}
 

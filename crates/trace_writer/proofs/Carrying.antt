@@ -3,7 +3,7 @@ use Prim.Native.Nat.{ℕ, _%_, _≤_}
 use mathlib.Core.Path.{_≡_}
 use native.Mathlib.Omega.{arith}
 use Rattle.record.specs.declared.Record.{Record}
-use Rattle.row.specs.Answer.{Carries, v11, v12}
+use Rattle.row.specs.Carries.{Carries, v11, v12}
 
 pub carried-11 : {r : Record} {v : ℕ} → v ≡ 11 → Carries r v → (r .bus ≡ 0) × (r .offset % 100 ≡ 0)
 carried-11 e (v11 a b) = (a, b)

@@ -8,7 +8,7 @@ use native.Mathlib.Omega.{arith}
 use lib.ListN.{length, take, drop, length-append}
 use Rattle.record.specs.declared.Record.{Record}
 use Rattle.record.specs.Record.{Packs}
-use Rattle.row.specs.Answer.{Carries}
+use Rattle.row.specs.Carries.{Carries}
 use Rattle.row.specs.House.{rowText}
 use Rattle.trace.specs.House.{rowsText, none, Carried}
 use Rattle.trace.proofs.HouseTexts.{rows-none}

@@ -6,7 +6,7 @@ use lib.ListN.{length, drop}
 use Rattle.clock.specs.Start.{startLimit}
 use Rattle.record.specs.declared.Record.{Record}
 use Rattle.record.specs.Record.{WellFormed, Packs}
-use Rattle.row.specs.Answer.{Carries}
+use Rattle.row.specs.Carries.{Carries}
 use Rattle.trace.specs.Trace.{Trace}
 use Rattle.trace.specs.Promise.{packed}
 use Rattle.trace.specs.House.{traceText, Version, Each, Carried, Writable}

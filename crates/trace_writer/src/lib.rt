@@ -24,7 +24,7 @@ ghost use Rattle.base.specs.Wrote.{Wrote};
 ghost use Rattle.clock.specs.Start.{startLimit};
 ghost use Rattle.fields.specs.Columns.{lastNumber};
 ghost use Rattle.record.specs.Record.{WellFormed};
-ghost use Rattle.row.specs.Answer.{Carries};
+ghost use Rattle.row.specs.Carries.{Carries};
 ghost use Rattle.trace.specs.House.{Version, versionLineText, startLineText};
 ghost use Rattle.trace_writer.specs.Promise.{writeNumbers, Whole, WritePromise};
 ghost use Rattle.trace_writer.specs.Passes.{ended, headText, EntryOf, RowBytes, MisfitAfter, Measures, Fits, RowsPut};

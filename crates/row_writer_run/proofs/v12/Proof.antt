@@ -4,7 +4,7 @@ use native.Mathlib.Omega.{arith}
 use borrow.Author.Needs.{needs}
 use borrow.Author.Tests.{not-false}
 use Rattle.base.proofs.Tests.{shown}
-use Rattle.row.specs.Answer.{v12}
+use Rattle.row.specs.Carries.{v12}
 use Rattle.row_writer_run.proofs.v12.Statement.{statement}
 use Rattle.row_writer_run.proofs.v12.Tie as tie
 

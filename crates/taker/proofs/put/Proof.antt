@@ -1,7 +1,7 @@
 -- `taker::put` puts the fields into the slots.
 use borrow.Author.Needs.{needs}
 use lib.ListN.{length-set}
-use Rattle.row.proofs.Cycle.{seven}
+use Rattle.row_reader.proofs.Cycle.{seven}
 use Rattle.taker.proofs.put.Statement.{statement}
 use Rattle.taker.proofs.put.Tie as tie
 

@@ -1,11 +1,11 @@
--- `row::reader::skip` keeps: the bytes passed are blanks.
+-- `row_reader::skip` keeps: the bytes passed are blanks.
 use Prim.Native.Nat.{_+_, _-_}
 use native.Mathlib.Omega.{arith}
 use lib.ListN.{length}
 use Rattle.fields.proofs.Window.{inside}
-use Rattle.row.proofs.Cycle.{Blanks, no-blank, one-blank, skipped}
-use Rattle.row.proofs.reader.skip.Statement.{statement}
-use Rattle.row.proofs.reader.skip.Tie as tie
+use Rattle.row_reader.proofs.Cycle.{Blanks, no-blank, one-blank, skipped}
+use Rattle.row_reader.proofs.skip.Statement.{statement}
+use Rattle.row_reader.proofs.skip.Tie as tie
 
 abbrev Inv-loop : tie.InvT-loop
 Inv-loop w at bytes a₀ a = Blanks w at a

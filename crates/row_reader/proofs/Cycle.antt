@@ -17,12 +17,14 @@ use Rattle.fields.proofs.Runs.{all-map, all-left, all-append}
 use Rattle.fields.proofs.Window.{inside, slice-drop, next-line, next-lined}
 use Rattle.record.specs.declared.Record.{Record}
 use Rattle.record.specs.Promise.{fieldsOf}
 use Rattle.row.specs.declared.Part.{Part}
 use Rattle.row.specs.declared.Step.{Step}
 use Rattle.row.specs.declared.Stage.the-variants as stage
-use Rattle.row.specs.Stages.{Steps, moved, stuck, Ends, whole, early, Finds, found, RowFound, row-found, no-row, Skipped, Continues, good, Good}
-use Rattle.row.specs.Stages.{none as none-found}
+use Rattle.row.specs.Stages.{Steps, moved, stuck, Ends, whole, early, Continues, good, Good}
 use Rattle.row.specs.Row
+use Rattle.row_reader.specs.Answer.{RowFound, row-found, no-row}
+use Rattle.row_reader.specs.Reader.{Skipped, Finds, found}
+use Rattle.row_reader.specs.Reader.{none as none-found}
 
 -- The line without its first byte, and without bytes of its front.
 

@@ -7,19 +7,19 @@ use borrow.Fn.PlainCycle.{Measures, is, falls, and}
 use lib.ListN.{length}
 use Rattle.base.proofs.Tests.{shown, refuted}
 use Rattle.fields.proofs.Window.{inside}
-use Rattle.row.proofs.Cycle.{gap-found, gap-starts, end-found, field-found, field-none, onward}
-use Rattle.row.proofs.reader.field.Reads as field
-use Rattle.row.proofs.reader.field.Kinds as field-kinds
-use Rattle.row.proofs.reader.+field+gap.Lts-field as field-lts
-use Rattle.row.proofs.reader.gap.Reads as gap
-use Rattle.row.proofs.reader.gap.Kinds as gap-kinds
-use Rattle.row.proofs.reader.+field+gap.Lts-gap as gap-lts
-use Rattle.row.proofs.reader.at_end.Reads as at-end-reads
-use Rattle.row.proofs.reader.finish.Reads as finish-reads
-use Rattle.row.proofs.reader.skip.Reads as skip-reads
-use Rattle.row.proofs.stages.take_field.Reads as take-field-reads
-use Rattle.row.proofs.reader.+field+gap.{statement}
-use Rattle.row.proofs.reader.+field+gap.Tie.{close}
+use Rattle.row_reader.proofs.Cycle.{gap-found, gap-starts, end-found, field-found, field-none, onward}
+use Rattle.row_reader.proofs.field.Reads as field
+use Rattle.row_reader.proofs.field.Kinds as field-kinds
+use Rattle.row_reader.proofs.+field+gap.Lts-field as field-lts
+use Rattle.row_reader.proofs.gap.Reads as gap
+use Rattle.row_reader.proofs.gap.Kinds as gap-kinds
+use Rattle.row_reader.proofs.+field+gap.Lts-gap as gap-lts
+use Rattle.row_reader.proofs.at_end.Reads as at-end-reads
+use Rattle.row_reader.proofs.finish.Reads as finish-reads
+use Rattle.row_reader.proofs.skip.Reads as skip-reads
+use Rattle.row.proofs.take_field.Reads as take-field-reads
+use Rattle.row_reader.proofs.+field+gap.{statement}
+use Rattle.row_reader.proofs.+field+gap.Tie.{close}
 
 abbrev μ-field : Measures 2 field-kinds.ps ℕ
 μ-field κs a = 2 * (length (a .0 .now) - a .1 .0)

@@ -1,12 +1,12 @@
--- `row::reader::window` keeps: the bytes passed stand at the front.
+-- `row_reader::window` keeps: the bytes passed stand at the front.
 use Prim.Native.Nat.{_-_}
 use mathlib.Core.Path.{_≡_, refl}
 use native.Mathlib.Omega.{arith}
 use borrow.Author.Needs.{needs}
 use lib.ListN.{length}
-use Rattle.row.proofs.Whole.{Filled, filled-length, one-more, closed}
-use Rattle.row.proofs.reader.window.Statement.{statement}
-use Rattle.row.proofs.reader.window.Tie as tie
+use Rattle.row_reader.proofs.Whole.{Filled, filled-length, one-more, closed}
+use Rattle.row_reader.proofs.window.Statement.{statement}
+use Rattle.row_reader.proofs.window.Tie as tie
 
 abbrev Inv-loop : tie.InvT-loop
 Inv-loop s slots₀ n i₀ slots i = Filled s slots₀ slots n i

@@ -1,11 +1,11 @@
--- `row::reader::finish` puts the record's fields into the slots, if the row is whole.
+-- `row_reader::finish` puts the record's fields into the slots, if the row is whole.
 use native.Mathlib.Omega.{arith}
 use borrow.Author.Needs.{needs}
 use borrow.Author.Tests.{not-true, not-false}
 use lib.ListN.{length-set}
-use Rattle.row.proofs.Cycle.{seven, not-whole, is-whole}
-use Rattle.row.proofs.reader.finish.Statement.{statement}
-use Rattle.row.proofs.reader.finish.Tie as tie
+use Rattle.row_reader.proofs.Cycle.{seven, not-whole, is-whole}
+use Rattle.row_reader.proofs.finish.Statement.{statement}
+use Rattle.row_reader.proofs.finish.Tie as tie
 
 pub finish-spec : {M : Type 1} → statement M
 finish-spec =

@@ -1,8 +1,8 @@
--- `row::reader::row_in` starts at the stage of its version, and no row has another.
+-- `row_reader::row_in` starts at the stage of its version, and no row has another.
 use borrow.Author.Needs.{needs}
-use Rattle.row.proofs.Cycle.{row11, row12, no-version}
-use Rattle.row.proofs.reader.row_in.Statement.{statement}
-use Rattle.row.proofs.reader.row_in.Tie as tie
+use Rattle.row_reader.proofs.Cycle.{row11, row12, no-version}
+use Rattle.row_reader.proofs.row_in.Statement.{statement}
+use Rattle.row_reader.proofs.row_in.Tie as tie
 
 pub row-in-spec : {M : Type 1} → statement M
 row-in-spec =

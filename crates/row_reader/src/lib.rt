@@ -1,20 +1,26 @@
-// The cycle of the row reader: a gap is skipped, the field behind it is read, and so on to the end of the line. In the cycle every
+// Reads one row of a trace. Its cycle: a gap is skipped, the field behind it is read, and so on to the end of the line. In the cycle every
 // parameter is a number or a reference to an array, and the result is a number: the compiler makes it a loop.
-use crate::Part;
-use crate::Reading;
-use crate::Stage;
-use crate::stages::complete;
-use crate::stages::take_field;
 use record::Record;
 use record::of_fields;
+use row::Part;
+use row::Stage;
+use row::complete;
+use row::take_field;
 ghost use mathlib.Core.Path.{_≡_};
 ghost use mathlib.Core.List.{List, [], _∷_, _++_};
 ghost use Prim.Native.Nat.{ℕ, _+_, _<_};
 ghost use lib.ListN.{length, getD, drop};
 ghost use Rattle.base.specs.Decides.{Decides};
 ghost use Rattle.fields.specs.Window.{LineOf, Lined, Starts};
-ghost use Rattle.row.specs.Answer.{ReadsRow};
-ghost use Rattle.row.specs.Stages.{Skipped, Finds, RowFound, part, Good};
+ghost use Rattle.row.specs.Stages.{Good};
+ghost use Rattle.row_reader.specs.Answer.{ReadsRow, RowFound};
+ghost use Rattle.row_reader.specs.Reader.{Skipped, Finds, part};
+
+// A record, or not a row.
+pub enum Reading {
+    Is(Record),
+    Not,
+}
 
 // The place behind the blanks. Most gaps are one blank: they are passed before the loop.
 pub fn skip(w: &[u8; 256], at: usize) -> usize

@@ -12,9 +12,9 @@ use Rattle.fields.specs.Runs.{All, empty, more}
 use Rattle.fields.specs.Window.{NoEnd, LineOf}
 use Rattle.record.specs.declared.Record.{Record}
 use Rattle.record.specs.Record.{recordOf}
 use Rattle.row.specs.Row.{Row}
-use Rattle.row.specs.Stages.{RowFound, row-found, no-row}
 use Rattle.row.proofs.Plain.{row-plain}
+use Rattle.row_reader.specs.Answer.{RowFound, row-found, no-row}
 use Rattle.fields.proofs.Runs.{all-map}
 
 -- The line that stands before the first CR: all of s, or less of it, and then a CR stands behind it in s.

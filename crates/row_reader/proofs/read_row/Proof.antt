@@ -1,9 +1,9 @@
--- `row::reader::read_row` frames the line, reads it, and takes it only if it was read to its end.
+-- `row_reader::read_row` frames the line, reads it, and takes it only if it was read to its end.
 use native.Mathlib.Omega.{arith}
 use borrow.Author.Needs.{needs}
-use Rattle.row.proofs.Whole.{framed, not-read, is-read}
-use Rattle.row.proofs.reader.read_row.Statement.{statement}
-use Rattle.row.proofs.reader.read_row.Tie as tie
+use Rattle.row_reader.proofs.Whole.{framed, not-read, is-read}
+use Rattle.row_reader.proofs.read_row.Statement.{statement}
+use Rattle.row_reader.proofs.read_row.Tie as tie
 
 pub read-row-spec : {M : Type 1} → statement M
 read-row-spec =

@@ -1,0 +1,25 @@
+-- What the row reader answers.
+use Prim.Native.Nat.{ℕ, suc, _≤_}
+use mathlib.Core.Path.{_≡_}
+use mathlib.Core.List.{List}
+use lib.ListN.{length}
+use Rattle.record.specs.declared.Record.{Record}
+use Rattle.record.specs.Promise.{fieldsOf}
+use Rattle.row.specs.Row.{Row}
+use Rattle.row_reader.specs.declared.Reading.{Reading}
+use Rattle.row_reader.specs.declared.Reading.the-variants.{Is, Not}
+
+-- The most bytes before the end of a line.
+abbrev pub lineLimit : ℕ
+lineLimit = 250
+
+-- The record, exactly if the line has at most 250 bytes and is the row of it; else none is.
+abbrev pub ReadsRow : ℕ → ℕ → List ℕ → Reading → Type 0
+ReadsRow v k line (Is r) = (length line ≤ lineLimit) × Row v k r line
+ReadsRow v k line Not = (r : Record) → length line ≤ lineLimit → Row v k r line → ⊥
+
+-- Reading the line at the front of a window as row k of a version gives e: 0 if it is no row, else one more than the place of its CR, and then
+-- the record's fields stand in `out`.
+pub data RowFound (v k : ℕ) (line out : List ℕ) (e : ℕ) : Type 0 where
+  row-found : {r : Record} → Row v k r line → out ≡ fieldsOf r → e ≡ suc (length line) → RowFound v k line out e
+  no-row : e ≡ 0 → ((r : Record) → Row v k r line → ⊥) → RowFound v k line out e
