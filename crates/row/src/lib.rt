@@ -5,6 +5,9 @@ use record::Record;
 pub use stages::complete;
 pub use stages::take_field;
 
+// The place value of the first of eight data bytes: 256 ^ 7.
+pub const FIRST_PLACE: u64 = 72057594037927936;
+
 // Where the reader is in the columns of a row: what the next field is.
 pub enum Stage {
     Number11,

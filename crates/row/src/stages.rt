@@ -1,4 +1,5 @@
 // The stages of the row reader: each reads one field and says what is known of the record behind it.
+use crate::FIRST_PLACE;
 use crate::Part;
 use crate::Stage;
 use crate::Step;
@@ -9,9 +10,6 @@ ghost use Prim.Native.Nat.{_+_, _*_, _^_, _≤_};
 ghost use Rattle.fields.specs.Window.{Starts};
 ghost use Rattle.row.specs.Stages.{Steps, Byted, Ends, continues, Continues, good, Good};
 ghost use Rattle.row.specs.declared.Stage.the-variants as stage;
-
-// The place value of the first of eight data bytes: 256 ^ 7.
-const FIRST_PLACE: u64 = 72057594037927936;
 
 // What is known behind a field.
 fn known(at: usize, stage: Stage, r: Record) -> Step

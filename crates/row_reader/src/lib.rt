@@ -12,6 +12,7 @@ ghost use Prim.Native.Nat.{ℕ, _+_, _<_};
 ghost use lib.ListN.{length, getD, drop};
 ghost use Rattle.base.specs.Decides.{Decides};
 ghost use Rattle.fields.specs.Window.{LineOf, Lined, Starts};
+ghost use Rattle.record.specs.Promise.{fieldsOf};
 ghost use Rattle.row.specs.Stages.{Good};
 ghost use Rattle.row_reader.specs.Answer.{ReadsRow, RowFound};
 ghost use Rattle.row_reader.specs.Reader.{Skipped, Finds, part};
@@ -52,15 +53,10 @@ fn at_end(w: &[u8; 256], a: usize) -> bool
     bytes[a] == 13
 }
 
-// At the end of the line: one more than its place, if the row is whole, and its fields in `out`; else 0.
-fn finish(a: usize, p: Part, out: &mut [u64; 7]) -> usize
-    requires { ⌜ Good p × (a < 256) ⌝ }
-    ensures { λ e. ⌜ Finds p a [] (now (out .exit)) e ⌝ }
+// Puts the fields of a record, in the order of `of_fields`.
+pub fn put_fields(r: Record, out: &mut [u64; 7])
+    ensures { λ _. ⌜ now (out .exit) ≡ fieldsOf r ⌝ }
 {
-    if !complete(p) {
-        return 0;
-    }
-    let r = p.r;
     let slots: &mut [u64] = out;
     slots[0] = r.offset;
     slots[1] = r.bus;
@@ -69,6 +65,17 @@ fn finish(a: usize, p: Part, out: &mut [u64; 7]) -> usize
     slots[4] = r.id;
     slots[5] = r.len;
     slots[6] = r.data;
+}
+
+// At the end of the line: one more than its place, if the row is whole, and its fields in `out`; else 0.
+fn finish(a: usize, p: Part, out: &mut [u64; 7]) -> usize
+    requires { ⌜ Good p × (a < 256) ⌝ }
+    ensures { λ e. ⌜ Finds p a [] (now (out .exit)) e ⌝ }
+{
+    if !complete(p) {
+        return 0;
+    }
+    put_fields(p.r, out);
     a + 1
 }
 

@@ -1,5 +1,8 @@
 // Takes a row apart that was judged: nothing is tested that its being a row says, and every value goes on as a number.
 use fields::Scan;
+use record::Record;
+use row::FIRST_PLACE;
+use row_reader::put_fields;
 use row_reader::skip;
 ghost use mathlib.Core.Path.{_≡_};
 ghost use mathlib.Core.List.{List, [], _∷_};
@@ -10,9 +13,6 @@ ghost use Rattle.record.specs.Promise.{fieldsOf};
 ghost use Rattle.fields.specs.Window.{LineOf, Lined};
 ghost use Rattle.row.specs.Row.{Row, FromOffset};
 ghost use Rattle.taker.specs.Taking.{Goes, Told, AtBus, AtMark, AtId, AtLength, AtData, AtBytes, HasBytes, Gathered};
-
-// The place value of the first of eight data bytes: 256 ^ 7.
-const FIRST_PLACE: u64 = 72057594037927936;
 
 // One more than the place of the CR that ends the line. What is passed may be a warning's words, and blanks.
 fn line_end(w: &[u8; 256], at: usize) -> usize
@@ -25,29 +25,6 @@ fn line_end(w: &[u8; 256], at: usize) -> usize
         i += 1;
     }
     i + 1
-}
-
-// Puts the fields of a record.
-fn put(
-    offset: u64,
-    bus: u64,
-    kind: u64,
-    extended: u64,
-    id: u64,
-    len: u64,
-    data: u64,
-    out: &mut [u64; 7],
-)
-    ensures { λ _. ⌜ now (out .exit) ≡ offset ∷ bus ∷ kind ∷ extended ∷ id ∷ len ∷ «data» ∷ [] ⌝ }
-{
-    let slots: &mut [u64] = out;
-    slots[0] = offset;
-    slots[1] = bus;
-    slots[2] = kind;
-    slots[3] = extended;
-    slots[4] = id;
-    slots[5] = len;
-    slots[6] = data;
 }
 
 // The sum of n data bytes by place value, and the place behind them.
@@ -85,7 +62,16 @@ fn from_bytes(
     ensures { λ e. ⌜ Told (AtBytes offset bus kind extended id len) (now (w .entry)) at (now (out .exit)) e ⌝ }
 {
     let s = gather(w, at, len);
-    put(offset, bus, kind, extended, id, len, s.value, out);
+    let r = Record {
+        offset,
+        bus,
+        kind,
+        extended,
+        id,
+        len,
+        data: s.value,
+    };
+    put_fields(r, out);
     line_end(w, s.end)
 }
 
@@ -107,7 +93,16 @@ fn from_data(
     let a = skip(w, at);
     let bytes: &[u8] = w;
     if bytes[a] == 82 {
-        put(offset, bus, sent + 2, extended, id, len, 0, out);
+        let r = Record {
+            offset,
+            bus,
+            kind: sent + 2,
+            extended,
+            id,
+            len,
+            data: 0,
+        };
+        put_fields(r, out);
         return line_end(w, a);
     }
     from_bytes(w, a, offset, bus, sent, extended, id, len, out)

@@ -2,8 +2,7 @@
 use native.Mathlib.Omega.{arith}
 use borrow.Author.Needs.{needs}
 use borrow.Author.Tests.{not-true, not-false}
-use lib.ListN.{length-set}
-use Rattle.row_reader.proofs.Cycle.{seven, not-whole, is-whole}
+use Rattle.row_reader.proofs.Cycle.{not-whole, is-whole}
 use Rattle.row_reader.proofs.finish.Statement.{statement}
 use Rattle.row_reader.proofs.finish.Tie as tie
 
@@ -13,14 +12,7 @@ finish-spec =
     (tie.spec
     (λ c κs. search needs)
     (λ c. not-whole (c .before .complete .result) (not-true _ (c .if1 .taken)) (c .before .complete .ensures))
+    (λ c κs. search needs)
     (λ c. search needs)
-    (λ c. search needs)
-    (λ c. simp length-set (search needs))
-    (λ c. simp length-set (search needs))
-    (λ c. simp length-set (search needs))
-    (λ c. simp length-set (search needs))
-    (λ c. simp length-set (search needs))
-    (λ c. search needs)
-    (λ c. let s = c .before .before .before .before .args in
-    is-whole (c .before .before .before .complete .result) (not-false _ (c .before .before .if1 .left)) (c .before .before .before .complete .ensures)
-    (seven (s .out .now) (s .p .r) (search needs)) (omega arith)))
+    (λ c. is-whole (c .before .before .before .complete .result) (not-false _ (c .before .before .if1 .left)) (c .before .before .before .complete .ensures)
+    (c .put-fields .ensures) (omega arith)))

@@ -11,4 +11,4 @@ from-bytes-spec =
     (λ c κs. has-bytes (c .pre))
     (λ c κs. search needs)
     (λ c κs. bytes-lined (c .before .before .gather .ensures) (c .before .before .before .pre))
-    (λ c. bytes-told (c .before .before .before .gather .ensures) (c .before .put .ensures) (c .line-end .ensures)))
+    (λ c. bytes-told (c .before .before .before .gather .ensures) (c .before .put-fields .ensures) (c .line-end .ensures)))

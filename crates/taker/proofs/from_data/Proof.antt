@@ -15,6 +15,6 @@ from-data-spec =
     (λ c. omega (arith, c .before .before .before .before .pre .1))
     (λ c κs. search needs)
     (λ c κs. c .before .before .before .before .before .skip .ensures .0 .lined)
-    (λ c. remote-told (c .before .before .before .before .before .before .skip .ensures .0) (c .before .before .before .if1 .taken) (c .before .put .ensures) (omega arith) (c .line-end .ensures))
+    (λ c. remote-told (c .before .before .before .before .before .before .skip .ensures .0) (c .before .before .before .if1 .taken) (c .before .put-fields .ensures) (omega arith) (c .line-end .ensures))
     (λ c κs. goes-on (data-leads (c .before .before .before .before .skip .ensures .0) (c .before .if1 .left)) (c .before .before .before .before .before .pre .0))
     (λ c. told-back (data-leads (c .before .before .before .before .before .skip .ensures .0) (c .before .before .if1 .left)) (c .from-bytes .ensures)))
