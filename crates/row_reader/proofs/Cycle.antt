@@ -1,6 +1,6 @@
 -- What the cycle keeps: a gap changes no field, a field steps the state, and the line's end ends the row.
 use Prim.Native.Nat.{ℕ, suc, _+_, _≤_, _<_}
-use mathlib.Core.Path.{_≡_, refl, ap, sym, _∙_}
+use mathlib.Core.Path.{_≡_, refl, ap, sym, subst, _∙_}
 use mathlib.Core.Logic.{_≢_}
 use mathlib.Core.Bool.{Bool, true, false, true≢false}
 use mathlib.Core.List.{List, [], _∷_, _++_, append-assoc}
@@ -19,8 +19,9 @@ use Rattle.record.specs.declared.Record.{Record}
 use Rattle.record.specs.Promise.{fieldsOf}
 use Rattle.row.specs.declared.Part.{Part}
 use Rattle.row.specs.declared.Step.{Step}
+use Rattle.row.specs.declared.Stage.{Stage}
 use Rattle.row.specs.declared.Stage.the-variants as stage
-use Rattle.row.specs.Stages.{Steps, moved, stuck, Ends, whole, early, Continues, good, Good}
+use Rattle.row.specs.Stages.{Steps, moved, stuck, Ends, whole, early, continues, Continues, good, Good}
 use Rattle.row.specs.Row
 use Rattle.row_reader.specs.Answer.{RowFound, row-found, no-row}
 use Rattle.row_reader.specs.Reader.{Skipped, Finds, found}
@@ -229,13 +230,13 @@ onward {w} {at} {C} {t} (moved a e g on back) n k =
 
 -- A whole line.
 
-pub row11 : {k place : ℕ} {line out : List ℕ} {e : ℕ} {r : Record} → Finds (record { stage = stage.Number11; left = k; place = place; r = r }) 0 line out e → RowFound 11 k line out e
-row11 (found ps c o z) = row-found (record { fields = _; parted = ps; row = c }) o (omega arith)
-row11 (none-found z f) = no-row z (λ r w. f (w .fields) r (w .parted) (w .row))
+pub row11 : {p : Part} {line out : List ℕ} {e : ℕ} → Finds p 0 line out e → p .stage ≡ stage.Number11 → RowFound 11 (p .left) line out e
+row11 {p} (found {fs = fs} {r = r} ps c o z) s = row-found (record { fields = fs; parted = ps; row = subst (λ (x : Stage). continues x p fs r) s c }) o (omega arith)
+row11 {p} (none-found z f) s = no-row z (λ r w. f (w .fields) r (w .parted) (subst (λ (x : Stage). continues x p (w .fields) r) (sym s) (w .row)))
 
-pub row12 : {k place : ℕ} {line out : List ℕ} {e : ℕ} {r : Record} → Finds (record { stage = stage.Number12; left = k; place = place; r = r }) 0 line out e → RowFound 12 k line out e
-row12 (found ps c o z) = row-found (record { fields = _; parted = ps; row = c }) o (omega arith)
-row12 (none-found z f) = no-row z (λ r w. f (w .fields) r (w .parted) (w .row))
+pub row12 : {p : Part} {line out : List ℕ} {e : ℕ} → Finds p 0 line out e → p .stage ≡ stage.Number12 → RowFound 12 (p .left) line out e
+row12 {p} (found {fs = fs} {r = r} ps c o z) s = row-found (record { fields = fs; parted = ps; row = subst (λ (x : Stage). continues x p fs r) s c }) o (omega arith)
+row12 {p} (none-found z f) s = no-row z (λ r w. f (w .fields) r (w .parted) (subst (λ (x : Stage). continues x p (w .fields) r) (sym s) (w .row)))
 
 versions : {v k : ℕ} {r : Record} {fs : List (List ℕ)} → Row.RowFields v k r fs → (v ≡ 11 → ⊥) → (v ≡ 12 → ⊥) → ⊥
 versions (Row.number n (Row.one o b m)) p q = p refl
