@@ -14,30 +14,28 @@ ghost use Rattle.fields.specs.Window.{FieldAt, Starts, Takes, HexField, MarkFie
 ghost use Rattle.judged.specs.Judged.{Judged};
 
 // The place behind the field that stands here.
-pub fn field_end(w: &[u8; 256], at: usize) -> usize
-    requires { ⌜ Starts (now w) at ⌝ }
-    ensures { λ e. ⌜ ((f rest : List ℕ) → FieldAt f rest (drop at (now (w .entry))) → e ≡ at + length f) ⌝ }
-    ensures { λ e. ⌜ e < 256 ⌝ }
+pub fn field_end(s: &[u8], at: usize) -> usize
+    requires { ⌜ Starts (now s) at ⌝ }
+    ensures { λ e. ⌜ ((f rest : List ℕ) → FieldAt f rest (drop at (now (s .entry))) → e ≡ at + length f) ⌝ }
+    ensures { λ e. ⌜ e < length (now (s .entry)) ⌝ }
 {
-    let bytes: &[u8] = w;
     let mut i = at + 1;
-    while !ends(bytes[i]) {
+    while !ends(s[i]) {
         i += 1;
     }
     i
 }
 
 // A hexadecimal number of at most eight digits.
-pub fn hex_at(w: &[u8; 256], at: usize) -> Scan
-    requires { ⌜ Judged HexField (now w) at ⌝ }
-    ensures { λ s. ⌜ Takes HexField (now (w .entry)) at s ⌝ }
-    ensures { λ s. ⌜ 0 < s .end ⌝ }
+pub fn hex_at(s: &[u8], at: usize) -> Scan
+    requires { ⌜ Judged HexField (now s) at ⌝ }
+    ensures { λ r. ⌜ Takes HexField (now (s .entry)) at r ⌝ }
+    ensures { λ r. ⌜ 0 < r .end ⌝ }
 {
-    let bytes: &[u8] = w;
     let mut n: u64 = 0;
     let mut i = at;
-    while !ends(bytes[i]) {
-        let d = hex_value(bytes[i]);
+    while !ends(s[i]) {
+        let d = hex_value(s[i]);
         n = n * 16 + d;
         i += 1;
     }
@@ -45,37 +43,35 @@ pub fn hex_at(w: &[u8; 256], at: usize) -> Scan
 }
 
 // The byte that two hexadecimal digits are.
-pub fn pair_at(w: &[u8; 256], at: usize) -> u64
-    requires { ⌜ Judged (Hex 2) (now w) at ⌝ }
-    ensures { λ v. ⌜ ((b : ℕ) (f rest : List ℕ) → FieldAt f rest (drop at (now (w .entry))) → Hex 2 b f → v ≡ b) ⌝ }
+pub fn pair_at(s: &[u8], at: usize) -> u64
+    requires { ⌜ Judged (Hex 2) (now s) at ⌝ }
+    ensures { λ v. ⌜ ((b : ℕ) (f rest : List ℕ) → FieldAt f rest (drop at (now (s .entry))) → Hex 2 b f → v ≡ b) ⌝ }
     ensures { λ v. ⌜ v < 256 ⌝ }
 {
-    let bytes: &[u8] = w;
-    hex_value(bytes[at]) * 16 + hex_value(bytes[at + 1])
+    hex_value(s[at]) * 16 + hex_value(s[at + 1])
 }
 
 // An offset with so many digits behind its point, as microseconds: the digits up to the point, and those behind it.
-pub fn offset_at(w: &[u8; 256], at: usize, digits: usize) -> Scan
-    requires { ⌜ Judged (OffsetField digits) (now w) at × ((digits ≡ 1) ⊎ (digits ≡ 3)) ⌝ }
-    ensures { λ s. ⌜ Takes (OffsetField digits) (now (w .entry)) at s ⌝ }
-    ensures { λ s. ⌜ 0 < s .end ⌝ }
+pub fn offset_at(s: &[u8], at: usize, digits: usize) -> Scan
+    requires { ⌜ Judged (OffsetField digits) (now s) at × ((digits ≡ 1) ⊎ (digits ≡ 3)) ⌝ }
+    ensures { λ r. ⌜ Takes (OffsetField digits) (now (s .entry)) at r ⌝ }
+    ensures { λ r. ⌜ 0 < r .end ⌝ }
 {
-    let bytes: &[u8] = w;
     let mut n: u64 = 0;
     let mut i = at;
-    while bytes[i] != 46 {
-        n = n * 10 + (wide(bytes[i]) - 48);
+    while s[i] != 46 {
+        n = n * 10 + (wide(s[i]) - 48);
         i += 1;
     }
     if digits == 1 {
         return Scan {
             end: i + 2,
-            value: n * 1000 + (wide(bytes[i + 1]) - 48) * 100,
+            value: n * 1000 + (wide(s[i + 1]) - 48) * 100,
         };
     }
-    let a = wide(bytes[i + 1]) - 48;
-    let b = wide(bytes[i + 2]) - 48;
-    let c = wide(bytes[i + 3]) - 48;
+    let a = wide(s[i + 1]) - 48;
+    let b = wide(s[i + 2]) - 48;
+    let c = wide(s[i + 3]) - 48;
     Scan {
         end: i + 4,
         value: n * 1000 + 100 * a + 10 * b + c,
@@ -83,14 +79,13 @@ pub fn offset_at(w: &[u8; 256], at: usize, digits: usize) -> Scan
 }
 
 // A bus: one digit, or two.
-pub fn bus_at(w: &[u8; 256], at: usize) -> Scan
-    requires { ⌜ Judged BusField (now w) at ⌝ }
-    ensures { λ s. ⌜ Takes BusField (now (w .entry)) at s ⌝ }
-    ensures { λ s. ⌜ 0 < s .end ⌝ }
+pub fn bus_at(s: &[u8], at: usize) -> Scan
+    requires { ⌜ Judged BusField (now s) at ⌝ }
+    ensures { λ r. ⌜ Takes BusField (now (s .entry)) at r ⌝ }
+    ensures { λ r. ⌜ 0 < r .end ⌝ }
 {
-    let bytes: &[u8] = w;
-    let n = wide(bytes[at]) - 48;
-    if ends(bytes[at + 1]) {
+    let n = wide(s[at]) - 48;
+    if ends(s[at + 1]) {
         return Scan {
             end: at + 1,
             value: n,
@@ -98,18 +93,17 @@ pub fn bus_at(w: &[u8; 256], at: usize) -> Scan
     }
     Scan {
         end: at + 2,
-        value: n * 10 + (wide(bytes[at + 1]) - 48),
+        value: n * 10 + (wide(s[at + 1]) - 48),
     }
 }
 
 // `Rx`, `Tx`, `Warng` or `Error`, by the first byte. No branch tells `Rx` from `Tx`.
-pub fn mark_at(w: &[u8; 256], at: usize) -> Scan
-    requires { ⌜ Judged MarkField (now w) at ⌝ }
-    ensures { λ s. ⌜ Takes MarkField (now (w .entry)) at s ⌝ }
-    ensures { λ s. ⌜ 0 < s .end ⌝ }
+pub fn mark_at(s: &[u8], at: usize) -> Scan
+    requires { ⌜ Judged MarkField (now s) at ⌝ }
+    ensures { λ r. ⌜ Takes MarkField (now (s .entry)) at r ⌝ }
+    ensures { λ r. ⌜ 0 < r .end ⌝ }
 {
-    let bytes: &[u8] = w;
-    let first = bytes[at];
+    let first = s[at];
     if first == 87 {
         return Scan {
             end: at + 5,
@@ -129,14 +123,13 @@ pub fn mark_at(w: &[u8; 256], at: usize) -> Scan
 }
 
 // A length: one digit.
-pub fn length_at(w: &[u8; 256], at: usize) -> Scan
-    requires { ⌜ Judged LengthField (now w) at ⌝ }
-    ensures { λ s. ⌜ Takes LengthField (now (w .entry)) at s ⌝ }
-    ensures { λ s. ⌜ 0 < s .end ⌝ }
+pub fn length_at(s: &[u8], at: usize) -> Scan
+    requires { ⌜ Judged LengthField (now s) at ⌝ }
+    ensures { λ r. ⌜ Takes LengthField (now (s .entry)) at r ⌝ }
+    ensures { λ r. ⌜ 0 < r .end ⌝ }
 {
-    let bytes: &[u8] = w;
     Scan {
         end: at + 1,
-        value: wide(bytes[at] - 48),
+        value: wide(s[at] - 48),
     }
 }

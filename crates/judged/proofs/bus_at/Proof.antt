@@ -12,7 +12,7 @@ use Rattle.judged.proofs.bus_at.Statement.{statement}
 use Rattle.judged.proofs.bus_at.Tie as tie
 
 -- the second byte is one of the field
-solid : (c : tie.Else1) → let a = c .before .before .before .before .before .before .args in Solid (getD (a .w .now) (a .at + 1) 0)
+solid : (c : tie.Else1) → let a = c .before .before .before .before .before .before .args in Solid (getD (a .s .now) (a .at + 1) 0)
 solid c =
     let x = c .before .ends in
     let n = refuted (x .result) (c .if1 .left) (x .ensures) in

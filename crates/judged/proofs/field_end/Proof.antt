@@ -11,16 +11,16 @@ use Rattle.judged.proofs.field_end.Statement.{statement}
 use Rattle.judged.proofs.field_end.Tie as tie
 
 abbrev Inv-loop : tie.InvT-loop
-Inv-loop w at bytes i₀ i = Solids w at i
+Inv-loop w at i₀ i = Solids w at i
 
 abbrev μ-loop : tie.MeasureT-loop
-μ-loop w at bytes i₀ i = length w - i
+μ-loop w at i₀ i = length w - i
 
 pub field-end-spec : {M : Type 1} → statement M
 field-end-spec =
     tie.close
     (tie.spec Inv-loop μ-loop
-    (λ c. omega (arith, inside (c .before .args .w .now) (c .before .args .at) (c .before .pre .lined)))
+    (λ c. omega (arith, inside (c .before .args .s .now) (c .before .args .at) (c .before .pre .lined)))
     (λ c. one-solid (c .before .pre))
     (λ c. within (c .before .loop .inv))
     (λ c κs. search needs)

@@ -15,12 +15,12 @@ use Rattle.judged.proofs.hex_at.Statement.{statement}
 use Rattle.judged.proofs.hex_at.Tie as tie
 
 abbrev Inv-loop : tie.InvT-loop
-Inv-loop w at bytes n₀ i₀ n i = Passed HexDigit 16 8 w at n i
+Inv-loop w at n₀ i₀ n i = Passed HexDigit 16 8 w at n i
 
 abbrev μ-loop : tie.MeasureT-loop
-μ-loop w at bytes n₀ i₀ n i = length w - i
+μ-loop w at n₀ i₀ n i = length w - i
 
-solid : (c : tie.Then1 Inv-loop μ-loop) → Solid (getD (c .before .before .before .before .before .args .w .now) (c .before .before .before .loop .i) 0)
+solid : (c : tie.Then1 Inv-loop μ-loop) → Solid (getD (c .before .before .before .before .before .args .s .now) (c .before .before .before .loop .i) 0)
 solid c = is-solid (c .before .ends .result) (c .before .ends .ensures) (c .if1 .taken)
 
 small : (c : tie.Then1 Inv-loop μ-loop) → c .before .before .before .loop .n < 16 ^ 8

@@ -10,7 +10,7 @@ pub length-at-spec : {M : Type 1} → statement M
 length-at-spec =
     tie.close
     (tie.spec
-    (λ c. omega (arith, inside (c .before .args .w .now) (c .before .args .at) (c .before .pre .lined)))
+    (λ c. omega (arith, inside (c .before .args .s .now) (c .before .args .at) (c .before .pre .lined)))
     (λ c. inside _ _ (c .before .before .pre .lined))
     (λ c. omega (arith, length-first (c .before .before .pre)))
     (λ c κs. search needs)

@@ -11,11 +11,11 @@ mark-at-spec =
     tie.close
     (tie.spec
     (λ c. inside _ _ (c .before .before .pre .lined))
-    (λ c. let s = c .before .before .before in omega (arith, inside (s .args .w .now) (s .args .at) (s .pre .lined)))
+    (λ c. let s = c .before .before .before in omega (arith, inside (s .args .s .now) (s .args .at) (s .pre .lined)))
     (λ c. (warng-takes (c .before .before .before .pre) (c .if1 .taken), omega arith))
-    (λ c. let s = c .before .before .before .before in omega (arith, inside (s .args .w .now) (s .args .at) (s .pre .lined)))
+    (λ c. let s = c .before .before .before .before in omega (arith, inside (s .args .s .now) (s .args .at) (s .pre .lined)))
     (λ c. (error-takes (c .before .before .before .before .pre) (c .if2 .taken), omega arith))
-    (λ c. let s = c .before .before .before .before in omega (arith, inside (s .args .w .now) (s .args .at) (s .pre .lined)))
+    (λ c. let s = c .before .before .before .before in omega (arith, inside (s .args .s .now) (s .args .at) (s .pre .lined)))
     (λ c. omega (arith, short-low (c .before .before .before .before .pre) (c .before .if1 .left) (c .if2 .left)))
     (λ c κs. search needs)
     (λ c. (short-takes (c .before .before .before .before .before .pre) _ (c .before .before .if1 .left) (c .before .if2 .left) (λ e. omega arith), omega arith)))

@@ -14,14 +14,14 @@ use Rattle.judged.proofs.offset_at.Statement.{statement}
 use Rattle.judged.proofs.offset_at.Tie as tie
 
 abbrev Inv-loop : tie.InvT-loop
-Inv-loop w at digits bytes n₀ i₀ n i = Passed DecimalDigit 10 11 w at n i
+Inv-loop w at digits n₀ i₀ n i = Passed DecimalDigit 10 11 w at n i
 
 abbrev μ-loop : tie.MeasureT-loop
-μ-loop w at digits bytes n₀ i₀ n i = length w - i
+μ-loop w at digits n₀ i₀ n i = length w - i
 
 -- a digit before the point
 digit : (c : tie.Then1 Inv-loop μ-loop)
-    → (d : ℕ) × DecimalDigit (getD (c .before .before .before .before .args .w .now) (c .before .before .loop .i) 0) d
+    → (d : ℕ) × DecimalDigit (getD (c .before .before .before .before .args .s .now) (c .before .before .loop .i) 0) d
 digit c = whole-digit (c .before .before .before .before .pre .0) (c .before .before .loop .inv) (c .if1 .taken)
 
 small : (c : tie.Then1 Inv-loop μ-loop) → c .before .before .loop .n < 10 ^ 11
@@ -32,19 +32,19 @@ whole : (c : tie.Else1 Inv-loop μ-loop) → c .before .before .loop .n < 10 ^ 1
 whole c = let p = c .before .before .loop .inv in room decimal 11 (omega arith) p (p .few)
 
 part : (c : tie.Else1 Inv-loop μ-loop)
-    → c .before .before .loop .i + 1 + c .before .before .before .before .args .digits ≤ length (c .before .before .before .before .args .w .now)
+    → c .before .before .loop .i + 1 + c .before .before .before .before .args .digits ≤ length (c .before .before .before .before .args .s .now)
 part c = part-inside (c .before .before .before .before .pre .0) (c .before .before .loop .inv) (c .if1 .left)
 
 -- one digit behind it
 one : (c : tie.Then2 Inv-loop μ-loop) → let s = c .before .before .before .before .before in
-    DecimalDigit (getD (s .args .w .now) (c .before .before .before .loop .i + 1) 0) (s .pre .0 .is .fraction)
+    DecimalDigit (getD (s .args .s .now) (c .before .before .before .loop .i + 1) 0) (s .pre .0 .is .fraction)
 one c = tenth (c .before .before .before .before .before .pre .0) (c .before .before .before .loop .inv) (c .before .if1 .left) (c .if2 .taken)
 
 -- or three
 three : (c : tie.Else2 Inv-loop μ-loop) → c .before .before .before .before .before .args .digits ≡ 3
 three c = ⊎-elim (λ q. absurd (c .if2 .left q)) (λ q. q) (c .before .before .before .before .before .pre .1)
 
-behind : (c : tie.Else2 Inv-loop μ-loop) → let w = c .before .before .before .before .before .args .w .now in
+behind : (c : tie.Else2 Inv-loop μ-loop) → let w = c .before .before .before .before .before .args .s .now in
     let i = c .before .before .before .loop .i in
     Three (getD w (i + 1) 0) (getD w (i + 2) 0) (getD w (i + 3) 0) (c .before .before .before .before .before .pre .0 .is .fraction)
 behind c = three-behind (c .before .before .before .before .before .pre .0) (c .before .before .before .loop .inv) (c .before .if1 .left) (three c)

@@ -20,4 +20,4 @@ pair-at-spec =
     (λ c. let g = c .before .before .before .before .before .args in
     let p = c .before .before .hex-value .ensures in
     let q = c .hex-value2 .ensures in
-    (λ b f rest a h. pair-one (g .w .now) (g .at) p q a h, omega (arith, hex .small p, hex .small q))))
+    (λ b f rest a h. pair-one (g .s .now) (g .at) p q a h, omega (arith, hex .small p, hex .small q))))
