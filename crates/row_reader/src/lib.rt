@@ -24,24 +24,33 @@ pub enum Reading {
 }
 
 // The place behind the blanks. Most gaps are one blank: they are passed before the loop.
-pub fn skip(w: &[u8; 256], at: usize) -> usize
+pub fn skip(s: &[u8], at: usize) -> usize
+    requires { ⌜ Lined (drop at (now s)) ⌝ }
+    ensures { λ a. ⌜ Skipped (now (s .entry)) at a ⌝ }
+    ensures { λ a. ⌜ a < length (now (s .entry)) ⌝ }
+{
+    if s[at] != 32 {
+        return at;
+    }
+    let mut a = at + 1;
+    if s[a] != 32 {
+        return a;
+    }
+    a += 1;
+    while s[a] == 32 {
+        a += 1;
+    }
+    a
+}
+
+// The same in a window.
+fn skip_in(w: &[u8; 256], at: usize) -> usize
     requires { ⌜ Lined (drop at (now w)) ⌝ }
     ensures { λ a. ⌜ Skipped (now (w .entry)) at a ⌝ }
     ensures { λ a. ⌜ a < 256 ⌝ }
 {
     let bytes: &[u8] = w;
-    if bytes[at] != 32 {
-        return at;
-    }
-    let mut a = at + 1;
-    if bytes[a] != 32 {
-        return a;
-    }
-    a += 1;
-    while bytes[a] == 32 {
-        a += 1;
-    }
-    a
+    skip(bytes, at)
 }
 
 // Whether the line ends here.
@@ -98,7 +107,7 @@ fn gap(
     requires { ⌜ Lined (drop at (now w)) × Good (part stage left place offset bus kind extended id len «data») ⌝ }
     ensures { λ e. ⌜ ((line : List ℕ) → LineOf line (drop at (now (w .entry))) → Finds (part stage left place offset bus kind extended id len «data») at line (now (out .exit)) e) ⌝ }
 {
-    let a = skip(w, at);
+    let a = skip_in(w, at);
     if at_end(w, a) {
         let r = Record {
             offset,

@@ -399,18 +399,18 @@ at-cr {w} {at} {i} o z line k = let x = o .on line k in omega (arith, x .2, ap l
 
 -- The row: its number is passed.
 
-pub row-held : {v k : ℕ} {r : Record} {w line : List ℕ} → LineOf line w → (y : Row.Row v k r line) → Held w (length line) 0 (y .fields)
-row-held {line = line} l y = record { line = line; is = l; parts = y .parted; end = omega arith }
+pub row-held : {v k : ℕ} {r : Record} {line : List ℕ} (w : List ℕ) (at : ℕ) → LineOf line (drop at w) → (y : Row.Row v k r line) → Held w (at + length line) at (y .fields)
+row-held {line = line} w at l y = record { line = line; is = l; parts = y .parted; end = refl }
 
-pub row-goes : {v : ℕ} {w : List ℕ} (p : (k : ℕ) × (r : Record) × (line : List ℕ) × LineOf line w × Row.Row v k r line)
-    → Goes (λ r fs. Row.RowFields v (p .0) r fs) w 0
-row-goes p = record { cr = length (p .2); this = p .1; fields = p .4 .fields; held = row-held (p .3) (p .4); says = p .4 .row }
+pub row-goes : {v : ℕ} (w : List ℕ) (at : ℕ) (p : (k : ℕ) × (r : Record) × (line : List ℕ) × LineOf line (drop at w) × Row.Row v k r line)
+    → Goes (λ r fs. Row.RowFields v (p .0) r fs) w at
+row-goes w at p = record { cr = at + length (p .2); this = p .1; fields = p .4 .fields; held = row-held w at (p .3) (p .4); says = p .4 .row }
 
-module _ {w : List ℕ} {a e v n : ℕ} (k : Skipped w 0 a) (t : (f rest : List ℕ) → FieldAt f rest (drop a w) → e ≡ a + length f) where
-  pub number11-leads : v ≡ 11 → Leads w (λ r fs. Row.RowFields v n r fs) 0 (λ r fs. Row.FromOffset r 11 fs) e
+module _ {w : List ℕ} {at a e v n : ℕ} (k : Skipped w at a) (t : (f rest : List ℕ) → FieldAt f rest (drop a w) → e ≡ a + length f) where
+  pub number11-leads : v ≡ 11 → Leads w (λ r fs. Row.RowFields v n r fs) at (λ r fs. Row.FromOffset r 11 fs) e
   number11-leads q = end-leads k open-number t (λ r f fs y. rw q at (after-number y .1))
 
-  pub number12-leads : v ≢ 11 → Leads w (λ r fs. Row.RowFields v n r fs) 0 (λ r fs. Row.FromOffset r 12 fs) e
+  pub number12-leads : v ≢ 11 → Leads w (λ r fs. Row.RowFields v n r fs) at (λ r fs. Row.FromOffset r 12 fs) e
   number12-leads q = end-leads k open-number t (λ r f fs y. other q (after-number y .1))
     where
       other : {v : ℕ} {r : Record} {fs : List (List ℕ)} → v ≢ 11 → Row.FromOffset r v fs → Row.FromOffset r 12 fs

@@ -15,30 +15,29 @@ ghost use Rattle.row.specs.Row.{Row, FromOffset};
 ghost use Rattle.taker.specs.Taking.{Goes, Told, AtBus, AtMark, AtId, AtLength, AtData, AtBytes, HasBytes, Gathered};
 
 // One more than the place of the CR that ends the line. What is passed may be a warning's words, and blanks.
-fn line_end(w: &[u8; 256], at: usize) -> usize
-    requires { ⌜ Lined (drop at (now w)) ⌝ }
-    ensures { λ e. ⌜ ((line : List ℕ) → LineOf line (drop at (now (w .entry))) → e ≡ suc (at + length line)) ⌝ }
+fn line_end(text: &[u8], at: usize) -> usize
+    requires { ⌜ Lined (drop at (now text)) ⌝ }
+    ensures { λ e. ⌜ ((line : List ℕ) → LineOf line (drop at (now (text .entry))) → e ≡ suc (at + length line)) ⌝ }
 {
-    let bytes: &[u8] = w;
     let mut i = at;
-    while bytes[i] != 13 {
+    while text[i] != 13 {
         i += 1;
     }
     i + 1
 }
 
 // The sum of n data bytes by place value, and the place behind them.
-fn gather(w: &[u8; 256], at: usize, n: u64) -> Scan
-    requires { ⌜ HasBytes n (now w) at ⌝ }
-    ensures { λ s. ⌜ Gathered n (now (w .entry)) at s ⌝ }
+fn gather(text: &[u8], at: usize, n: u64) -> Scan
+    requires { ⌜ HasBytes n (now text) at ⌝ }
+    ensures { λ s. ⌜ Gathered n (now (text .entry)) at s ⌝ }
 {
     let mut data = 0;
     let mut place = FIRST_PLACE;
     let mut left = n;
     let mut end = at;
     while left != 0 {
-        let a = skip(w, end);
-        data += judged::pair_at(w, a) * place;
+        let a = skip(text, end);
+        data += judged::pair_at(text, a) * place;
         place /= 256;
         left -= 1;
         end = a + 2;
@@ -48,7 +47,7 @@ fn gather(w: &[u8; 256], at: usize, n: u64) -> Scan
 
 // From the data bytes on.
 fn from_bytes(
-    w: &[u8; 256],
+    text: &[u8],
     at: usize,
     offset: u64,
     bus: u64,
@@ -58,10 +57,10 @@ fn from_bytes(
     len: u64,
     out: &mut [u64; 7],
 ) -> usize
-    requires { ⌜ Goes (AtBytes offset bus kind extended id len) (now w) at ⌝ }
-    ensures { λ e. ⌜ Told (AtBytes offset bus kind extended id len) (now (w .entry)) at (now (out .exit)) e ⌝ }
+    requires { ⌜ Goes (AtBytes offset bus kind extended id len) (now text) at ⌝ }
+    ensures { λ e. ⌜ Told (AtBytes offset bus kind extended id len) (now (text .entry)) at (now (out .exit)) e ⌝ }
 {
-    let s = gather(w, at, len);
+    let s = gather(text, at, len);
     let r = Record {
         offset,
         bus,
@@ -72,12 +71,12 @@ fn from_bytes(
         data: s.value,
     };
     put_fields(r, out);
-    line_end(w, s.end)
+    line_end(text, s.end)
 }
 
 // From the data of a frame on. `RTR` is told by its first byte, which is no hexadecimal digit.
 fn from_data(
-    w: &[u8; 256],
+    text: &[u8],
     at: usize,
     sent: u64,
     offset: u64,
@@ -87,12 +86,11 @@ fn from_data(
     len: u64,
     out: &mut [u64; 7],
 ) -> usize
-    requires { ⌜ Goes (AtData sent offset bus extended id len) (now w) at × (sent ≤ 1) ⌝ }
-    ensures { λ e. ⌜ Told (AtData sent offset bus extended id len) (now (w .entry)) at (now (out .exit)) e ⌝ }
+    requires { ⌜ Goes (AtData sent offset bus extended id len) (now text) at × (sent ≤ 1) ⌝ }
+    ensures { λ e. ⌜ Told (AtData sent offset bus extended id len) (now (text .entry)) at (now (out .exit)) e ⌝ }
 {
-    let a = skip(w, at);
-    let bytes: &[u8] = w;
-    if bytes[a] == 82 {
+    let a = skip(text, at);
+    if text[a] == 82 {
         let r = Record {
             offset,
             bus,
@@ -103,14 +101,14 @@ fn from_data(
             data: 0,
         };
         put_fields(r, out);
-        return line_end(w, a);
+        return line_end(text, a);
     }
-    from_bytes(w, a, offset, bus, sent, extended, id, len, out)
+    from_bytes(text, a, offset, bus, sent, extended, id, len, out)
 }
 
 // From the length on: frames, warnings and error frames part here. An ID of eight digits is extended.
 fn from_length(
-    w: &[u8; 256],
+    text: &[u8],
     at: usize,
     mark: u64,
     offset: u64,
@@ -119,14 +117,14 @@ fn from_length(
     id: u64,
     out: &mut [u64; 7],
 ) -> usize
-    requires { ⌜ Goes (AtLength mark offset bus width id) (now w) at ⌝ }
-    ensures { λ e. ⌜ Told (AtLength mark offset bus width id) (now (w .entry)) at (now (out .exit)) e ⌝ }
+    requires { ⌜ Goes (AtLength mark offset bus width id) (now text) at ⌝ }
+    ensures { λ e. ⌜ Told (AtLength mark offset bus width id) (now (text .entry)) at (now (out .exit)) e ⌝ }
 {
-    let a = skip(w, at);
-    let s = judged::length_at(w, a);
+    let a = skip(text, at);
+    let s = judged::length_at(text, a);
     if mark <= 1 {
         return from_data(
-            w,
+            text,
             s.end,
             mark,
             offset,
@@ -138,71 +136,72 @@ fn from_length(
         );
     }
     if mark == 2 {
-        return from_bytes(w, s.end, offset, bus, 4, 0, 0, 4, out);
+        return from_bytes(text, s.end, offset, bus, 4, 0, 0, 4, out);
     }
-    from_bytes(w, s.end, offset, bus, 5, 0, id, 4, out)
+    from_bytes(text, s.end, offset, bus, 5, 0, id, 4, out)
 }
 
 // From the ID on.
-fn from_id(w: &[u8; 256], at: usize, mark: u64, offset: u64, bus: u64, out: &mut [u64; 7]) -> usize
-    requires { ⌜ Goes (AtId mark offset bus) (now w) at ⌝ }
-    ensures { λ e. ⌜ Told (AtId mark offset bus) (now (w .entry)) at (now (out .exit)) e ⌝ }
+fn from_id(text: &[u8], at: usize, mark: u64, offset: u64, bus: u64, out: &mut [u64; 7]) -> usize
+    requires { ⌜ Goes (AtId mark offset bus) (now text) at ⌝ }
+    ensures { λ e. ⌜ Told (AtId mark offset bus) (now (text .entry)) at (now (out .exit)) e ⌝ }
 {
-    let a = skip(w, at);
-    let s = judged::hex_at(w, a);
+    let a = skip(text, at);
+    let s = judged::hex_at(text, a);
     let e = s.end;
-    from_length(w, e, mark, offset, bus, e - a, s.value, out)
+    from_length(text, e, mark, offset, bus, e - a, s.value, out)
 }
 
 // From the mark on.
-fn from_mark(w: &[u8; 256], at: usize, offset: u64, bus: u64, out: &mut [u64; 7]) -> usize
-    requires { ⌜ Goes (AtMark offset bus) (now w) at ⌝ }
-    ensures { λ e. ⌜ Told (AtMark offset bus) (now (w .entry)) at (now (out .exit)) e ⌝ }
+fn from_mark(text: &[u8], at: usize, offset: u64, bus: u64, out: &mut [u64; 7]) -> usize
+    requires { ⌜ Goes (AtMark offset bus) (now text) at ⌝ }
+    ensures { λ e. ⌜ Told (AtMark offset bus) (now (text .entry)) at (now (out .exit)) e ⌝ }
 {
-    let a = skip(w, at);
-    let s = judged::mark_at(w, a);
-    from_id(w, s.end, s.value, offset, bus, out)
+    let a = skip(text, at);
+    let s = judged::mark_at(text, a);
+    from_id(text, s.end, s.value, offset, bus, out)
 }
 
 // From the bus on.
-fn from_bus(w: &[u8; 256], at: usize, offset: u64, out: &mut [u64; 7]) -> usize
-    requires { ⌜ Goes (AtBus offset) (now w) at ⌝ }
-    ensures { λ e. ⌜ Told (AtBus offset) (now (w .entry)) at (now (out .exit)) e ⌝ }
+fn from_bus(text: &[u8], at: usize, offset: u64, out: &mut [u64; 7]) -> usize
+    requires { ⌜ Goes (AtBus offset) (now text) at ⌝ }
+    ensures { λ e. ⌜ Told (AtBus offset) (now (text .entry)) at (now (out .exit)) e ⌝ }
 {
-    let a = skip(w, at);
-    let s = judged::bus_at(w, a);
-    from_mark(w, s.end, offset, s.value, out)
+    let a = skip(text, at);
+    let s = judged::bus_at(text, a);
+    from_mark(text, s.end, offset, s.value, out)
 }
 
 // From the offset on in version 1.1, where the bus is 0.
-fn from_offset11(w: &[u8; 256], at: usize, out: &mut [u64; 7]) -> usize
-    requires { ⌜ Goes (λ r fs. FromOffset r 11 fs) (now w) at ⌝ }
-    ensures { λ e. ⌜ Told (λ r fs. FromOffset r 11 fs) (now (w .entry)) at (now (out .exit)) e ⌝ }
+fn from_offset11(text: &[u8], at: usize, out: &mut [u64; 7]) -> usize
+    requires { ⌜ Goes (λ r fs. FromOffset r 11 fs) (now text) at ⌝ }
+    ensures { λ e. ⌜ Told (λ r fs. FromOffset r 11 fs) (now (text .entry)) at (now (out .exit)) e ⌝ }
 {
-    let a = skip(w, at);
-    let s = judged::offset_at(w, a, 1);
-    from_mark(w, s.end, s.value, 0, out)
+    let a = skip(text, at);
+    let s = judged::offset_at(text, a, 1);
+    from_mark(text, s.end, s.value, 0, out)
 }
 
 // The same in version 1.2.
-fn from_offset12(w: &[u8; 256], at: usize, out: &mut [u64; 7]) -> usize
-    requires { ⌜ Goes (λ r fs. FromOffset r 12 fs) (now w) at ⌝ }
-    ensures { λ e. ⌜ Told (λ r fs. FromOffset r 12 fs) (now (w .entry)) at (now (out .exit)) e ⌝ }
+fn from_offset12(text: &[u8], at: usize, out: &mut [u64; 7]) -> usize
+    requires { ⌜ Goes (λ r fs. FromOffset r 12 fs) (now text) at ⌝ }
+    ensures { λ e. ⌜ Told (λ r fs. FromOffset r 12 fs) (now (text .entry)) at (now (out .exit)) e ⌝ }
 {
-    let a = skip(w, at);
-    let s = judged::offset_at(w, a, 3);
-    from_bus(w, s.end, s.value, out)
+    let a = skip(text, at);
+    let s = judged::offset_at(text, a, 3);
+    from_bus(text, s.end, s.value, out)
 }
 
-// Takes a judged row of a version apart: one more than the place of its CR, and the record's fields in `out`. The row number needs no look.
-pub fn taken_in(w: &[u8; 256], version: u64, out: &mut [u64; 7]) -> usize
-    requires { ⌜ ((k : ℕ) × (r : Record) × (line : List ℕ) × LineOf line (now w) × Row version k r line) ⌝ }
-    ensures { λ e. ⌜ ((k : ℕ) (r : Record) (line : List ℕ) → LineOf line (now (w .entry)) → Row version k r line → (e ≡ suc (length line)) × (now (out .exit) ≡ fieldsOf r)) ⌝ }
+// Takes the judged row of a version that stands at a place apart: one more than the place of its CR, and the record's fields in `out`. The row number
+// needs no look.
+pub fn taken_in(text: &[u8], at: usize, version: u64, out: &mut [u64; 7]) -> usize
+    requires { ⌜ ((k : ℕ) × (r : Record) × (line : List ℕ) × LineOf line (drop at (now text)) × Row version k r line) ⌝ }
+    ensures { λ e. ⌜ ((k : ℕ) (r : Record) (line : List ℕ) → LineOf line (drop at (now (text .entry))) → Row version k r line → (e ≡ suc (at + length line)) × (now (out .exit) ≡ fieldsOf r)) ⌝ }
 {
-    let a = skip(w, 0);
-    let e = judged::field_end(w, a);
+    let a = skip(text, at);
+    let e = judged::field_end(text, a);
     if version == 11 {
-        return from_offset11(w, e, out);
+        return from_offset11(text, e, out);
     }
-    from_offset12(w, e, out)
+    from_offset12(text, e, out)
 }

@@ -115,21 +115,20 @@ module _ {text w fields : List ℕ} {at version k n e : ℕ} (win : Windowed tex
               let g = long win l in
               not (λ q. omega arith) (omega arith) (x .1)
 
--- A row that stands there ends within the text.
+-- A row that was judged: its line stands before a CR, and is taken from its place.
 module _ {text : List ℕ} {at version k : ℕ} (x : Rowed text at version k) where
-  pub rowed-within : at ≤ length text
-  rowed-within = let e = ap length (x .is .first .ended) ∙ length-append (x .line) (13 ∷ 10 ∷ x .after) in omega (arith, length-drop at text)
+  pub rowed-line : LineOf (x .line) (drop at text)
+  rowed-line = record { rest = _; plain = all-map (λ b p. p .cr) (x .is .first .inside); ended = x .is .first .ended }
 
-  pub rowed-after : {e : ℕ} → e ≡ suc (length (x .line)) → at + e < length text
-  rowed-after y = next-byte text at (x .is) y .0
+  pub rowed-after : {e : ℕ} → e ≡ suc (at + length (x .line)) → e < length text
+  rowed-after y = let h = next-byte text at (x .is) refl .0 in omega arith
 
--- A row that was judged is taken from its window.
-pub taken-here : {text fields : List ℕ} {at version k e : ℕ} (x : Rowed text at version k) → e ≡ suc (length (x .line)) → fields ≡ fieldsOf (x .r)
-    → RowAt text at version k fields (at + e + 1)
-taken-here {text} {at = at} x y o =
-    let n = next-byte text at (x .is) y in
-    let h = n .0 in
-    here (record { is = rw (n .2) at (x .is); later = omega arith; within = omega arith }) (x .row) o
+  pub taken-here : {fields : List ℕ} {e : ℕ} → e ≡ suc (at + length (x .line)) → fields ≡ fieldsOf (x .r) → RowAt text at version k fields (e + 1)
+  taken-here {e = e} y o =
+      let n = next-byte text at (x .is) refl in
+      let h = n .0 in
+      let q : at + suc (length (x .line)) ≡ e = omega arith in
+      here (record { is = rw (n .2, q) at (x .is); later = omega arith; within = omega arith }) (x .row) o
 
 -- What was found: the row, and that its fields are those of its record.
 pub record Found (text : List ℕ) (at version k : ℕ) (fields : List ℕ) (next : ℕ) : Type 0 where

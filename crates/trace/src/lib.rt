@@ -162,13 +162,12 @@ fn row_at(
 }
 
 // Takes the fields of a row of a version, which was judged, from its place, and gives the place of the next line.
-fn taken_at(text: &[u8], at: usize, version: u64, w: &mut [u8; 256], fields: &mut [u64; 7]) -> usize
+fn taken_at(text: &[u8], at: usize, version: u64, fields: &mut [u64; 7]) -> usize
     requires { ⌜ ((k : ℕ) × Rowed (now text) at version k) ⌝ }
     ensures { λ n. ⌜ ((k : ℕ) → Rowed (now (text .entry)) at version k → RowAt (now (text .entry)) at version k (now (fields .exit)) n × (0 < n)) ⌝ }
 {
-    window_at(text, at, w);
-    let e = taken_in(w, version, fields);
-    at + e + 1
+    let e = taken_in(text, at, version, fields);
+    e + 1
 }
 
 // What the line at a place is, if it is no row.
@@ -247,7 +246,6 @@ fn fill(text: &[u8], from: usize, version: u64, start: u64, out: &mut [u8]) -> u
     let mut o = 0;
     let mut last: u64 = 0;
     let mut back: u64 = 0;
-    let mut w = [0u8; 256];
     let mut fields = [0u64; 7];
     while at < text.len() {
         if text[at] == 59 {
@@ -261,7 +259,7 @@ fn fill(text: &[u8], from: usize, version: u64, start: u64, out: &mut [u8]) -> u
                 }
             }
         } else {
-            let next = taken_at(text, at, version, &mut w, &mut fields);
+            let next = taken_at(text, at, version, &mut fields);
             put_record(out, o, of_fields(&fields));
             done += 1;
             back = back_after(back, done, last, fields[0]);

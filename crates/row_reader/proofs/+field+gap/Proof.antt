@@ -16,7 +16,7 @@ use Rattle.row_reader.proofs.gap.Kinds as gap-kinds
 use Rattle.row_reader.proofs.+field+gap.Lts-gap as gap-lts
 use Rattle.row_reader.proofs.at_end.Reads as at-end-reads
 use Rattle.row_reader.proofs.finish.Reads as finish-reads
-use Rattle.row_reader.proofs.skip.Reads as skip-reads
+use Rattle.row_reader.proofs.skip_in.Reads as skip-in-reads
 use Rattle.row.proofs.take_field.Reads as take-field-reads
 use Rattle.row_reader.proofs.+field+gap.{statement}
 use Rattle.row_reader.proofs.+field+gap.Tie.{close}
@@ -48,15 +48,15 @@ pub +field+gap-spec : {M : Type 1} → statement M
     (λ c κs. let o = onward (c .before .before .before .before .take-field .ensures) (c .before .if1 .left) (c .before .before .before .before .before .pre .1 .0) in (omega arith, (o .lined, o .good)))
     (λ c line l. field-found (c .before .before .before .before .before .take-field .ensures) (c .before .before .if1 .left) l (c .gap .ensures)))
     (λ t. gap-lts.spec
-    (skip-reads.Asked, skip-reads.Learnt, at-end-reads.Asked, at-end-reads.Learnt, finish-reads.Asked, finish-reads.Learnt, field-below t, field.Post)
+    (skip-in-reads.Asked, skip-in-reads.Learnt, at-end-reads.Asked, at-end-reads.Learnt, finish-reads.Asked, finish-reads.Learnt, field-below t, field.Post)
     (gap-at t) gap.Post
     (λ c κs. c .pre .1 .0)
-    (λ c κs. c .skip .ensures .0 .lined)
-    (λ c κs. (c .before .before .before .before .pre .1 .1, c .before .before .before .skip .ensures .1))
-    (λ c line l. gap-found (c .before .before .before .before .skip .ensures .0) l
-    (λ rest k. end-found (c .before .before .before .before .before .args .w .now) (c .before .before .before .before .skip .result) k (shown (c .before .before .before .at-end .result) (c .before .before .if1 .taken) (c .before .before .before .at-end .ensures)) (c .finish .ensures)))
-    (λ c κs. let k = c .before .before .before .skip .ensures .0 in
-    let i = inside (c .before .before .before .before .args .w .now) (c .before .before .before .skip .result) (k .lined) in
+    (λ c κs. c .skip-in .ensures .0 .lined)
+    (λ c κs. (c .before .before .before .before .pre .1 .1, c .before .before .before .skip-in .ensures .1))
+    (λ c line l. gap-found (c .before .before .before .before .skip-in .ensures .0) l
+    (λ rest k. end-found (c .before .before .before .before .before .args .w .now) (c .before .before .before .before .skip-in .result) k (shown (c .before .before .before .at-end .result) (c .before .before .if1 .taken) (c .before .before .before .at-end .ensures)) (c .finish .ensures)))
+    (λ c κs. let k = c .before .before .before .skip-in .ensures .0 in
+    let i = inside (c .before .before .before .before .args .w .now) (c .before .before .before .skip-in .result) (k .lined) in
     let f = k .from in
     (omega arith, (gap-starts k (refuted (c .before .before .at-end .result) (c .before .if1 .left) (c .before .before .at-end .ensures)), c .before .before .before .before .pre .1 .1)))
-    (λ c line l. gap-found (c .before .before .before .before .skip .ensures .0) l (c .field .ensures)))
+    (λ c line l. gap-found (c .before .before .before .before .skip-in .ensures .0) l (c .field .ensures)))

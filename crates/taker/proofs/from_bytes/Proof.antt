@@ -8,7 +8,7 @@ pub from-bytes-spec : {M : Type 1} → statement M
 from-bytes-spec =
     tie.close
     (tie.spec
-    (λ c κs. has-bytes (c .pre))
+    (λ c κs. has-bytes (c .before .pre))
     (λ c κs. search needs)
-    (λ c κs. bytes-lined (c .before .before .gather .ensures) (c .before .before .before .pre))
+    (λ c κs. bytes-lined (c .before .before .gather .ensures) (c .before .before .before .before .pre))
     (λ c. bytes-told (c .before .before .before .gather .ensures) (c .before .put-fields .ensures) (c .line-end .ensures)))

@@ -15,8 +15,8 @@ gather-spec =
     tie.close
     (tie.spec Inv-loop μ-loop
     (λ c. all-left)
-    (λ c κs. left-lined (c .before .loop .inv) (c .before .before .pre))
-    (λ c κs. left-judged (c .before .before .loop .inv) (λ h. omega arith) (c .skip .ensures .0) (c .before .before .before .pre))
+    (λ c κs. left-lined (c .before .loop .inv) (c .before .before .before .pre))
+    (λ c κs. left-judged (c .before .before .loop .inv) (λ h. omega arith) (c .skip .ensures .0) (c .before .before .before .before .pre))
     (λ c. let l = c .before .before .before .loop in omega (arith, l .inv .room, l .inv .fits, most (l .place) (c .pair-at .ensures .1)))
     (λ c. let l = c .before .before .before .loop in omega (arith, l .inv .room, l .inv .fits, most (l .place) (c .pair-at .ensures .1)))
     (λ c. omega arith)

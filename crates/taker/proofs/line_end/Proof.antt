@@ -8,19 +8,19 @@ use Rattle.taker.proofs.line_end.Statement.{statement}
 use Rattle.taker.proofs.line_end.Tie as tie
 
 abbrev Inv-loop : tie.InvT-loop
-Inv-loop w at bytes i₀ i = Passed w at i
+Inv-loop w at i₀ i = Passed w at i
 
 abbrev μ-loop : tie.MeasureT-loop
-μ-loop w at bytes i₀ i = length w - i
+μ-loop w at i₀ i = length w - i
 
 pub line-end-spec : {M : Type 1} → statement M
 line-end-spec =
     tie.close
     (tie.spec Inv-loop μ-loop
-    (λ c. none-passed (c .before .pre))
+    (λ c. none-passed (c .pre))
     (λ c. inside _ _ (c .before .loop .inv .lined))
-    (λ c. let l = c .before .before .loop in omega (arith, inside (c .before .before .before .before .args .w .now) (l .i) (l .inv .lined)))
-    (λ c. let l = c .before .before .loop in omega (arith, inside (c .before .before .before .before .args .w .now) (l .i) (l .inv .lined)))
+    (λ c. let l = c .before .before .loop in omega (arith, inside (c .before .before .before .args .text .now) (l .i) (l .inv .lined)))
+    (λ c. let l = c .before .before .loop in omega (arith, inside (c .before .before .before .args .text .now) (l .i) (l .inv .lined)))
     (λ c. one-passed (c .before .before .loop .inv) (c .if1 .taken))
-    (λ c. let l = c .before .before .loop in omega (arith, inside (c .before .before .before .before .args .w .now) (l .i) (l .inv .lined)))
+    (λ c. let l = c .before .before .loop in omega (arith, inside (c .before .before .before .args .text .now) (l .i) (l .inv .lined)))
     (λ c. at-cr (c .before .before .loop .inv) (c .if1 .left)))
