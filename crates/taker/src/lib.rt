@@ -5,7 +5,7 @@ use row::FIRST_PLACE;
 use row_reader::put_fields;
 use row_reader::skip;
 ghost use mathlib.Core.Path.{_≡_};
-ghost use mathlib.Core.List.{List, [], _∷_};
+ghost use mathlib.Core.List.{List};
 ghost use Prim.Native.Nat.{ℕ, suc, _+_, _≤_};
 ghost use lib.ListN.{length, drop};
 ghost use Rattle.record.specs.declared.Record.{Record};
