@@ -8,10 +8,19 @@ def script(name):
     """another of these scripts, run on its own cases"""
     spec = importlib.util.spec_from_file_location(name, os.path.join(here, name + '.py'))
     module = importlib.util.module_from_spec(spec)
-    argv, sys.argv = sys.argv, [name, os.path.join(here, '../../crates', name, 'src/main.rt')]
+    crate = os.path.join(here, '../../crates', name)
+    cases = next(path for path in (os.path.join(crate, file) for file in ('stdin', 'src/main.rt')) if os.path.exists(path))
+    argv, sys.argv = sys.argv, [name, cases]
     with open(os.devnull, 'w') as nowhere, contextlib.redirect_stdout(nowhere): spec.loader.exec_module(module)
     sys.argv = argv
     return module
+
+def cases(path):
+    """the lines of a program's stdin that are cases, without their escapes"""
+    meant = {'r': '\r', 'n': '\n', 't': '\t', '\\': '\\', '': ''}
+    escape = re.compile(r'\\(?:x(..)|(.?))')
+    for line in open(path, encoding='ascii').read().split('\n'):
+        if line and not line.startswith('//'): yield escape.sub(lambda m: chr(int(m[1], 16)) if m[1] else meant[m[2]], line).encode('latin1')
 
 def value(x, names):
     """of a number, a name, a text or a small sum"""

@@ -1,15 +1,10 @@
 #!/usr/bin/env python3
-"""The output that trace_run must give: reads the cases in src/main.rt, and judges each text by the lines of paper 01."""
-import importlib.util, os, re, sys
+"""The output that trace_run must give: reads the cases in its file stdin, and judges each text by the lines of paper 01."""
+import re, sys
 from fractions import Fraction
+from shared import cases, script
 
-here = os.path.dirname(os.path.abspath(__file__))
-spec = importlib.util.spec_from_file_location('row_run', os.path.join(here, 'row_run.py'))
-row_run = importlib.util.module_from_spec(spec)
-sys.argv, argv = [sys.argv[0], os.devnull], sys.argv
-stdout, sys.stdout = sys.stdout, open(os.devnull, 'w')
-spec.loader.exec_module(row_run)
-sys.argv, sys.stdout = argv, stdout
+row_run = script('row_run')
 
 def bits(r):
     fields = r[:6] + (int.from_bytes(r[6], 'big'),)
@@ -56,10 +51,8 @@ def shown(name, text, room):
     out = b''.join(bits(r) for r in rows).ljust(room, b'\xee')
     print('%s: %s %s' % (name, ' '.join(map(str, numbers)), out.hex()))
 
-def bytes_of(s): return s.encode('latin1').decode('unicode_escape').encode('latin1')
-
-src = open(sys.argv[1]).read()
-for kind, name, text in re.findall(r'(case|narrow)\(\s*b"([^"]*)",\s*b"([^"]*)",?\s*\);', src):
-    shown(name, bytes_of(text), 64 if kind == 'case' else 59)
-small = bytes_of(re.search(r'let small: &\[u8\] =\s*b"([^"]*)"', src)[1])
-for i in range(len(small)): shown('cut', small[:i], 64)
+for case in cases(sys.argv[1]):
+    name, _, text = case.partition(b':')
+    how, text = text[:1], text[1:]
+    texts = [text[:i] for i in range(len(text))] if how == b'<' else [text]
+    for text in texts: shown(name.decode(), text, 59 if how == b'-' else 64)
