@@ -1,6 +1,7 @@
 #!/usr/bin/env python3
-"""The output that row_run must give: reads the cases in src/main.rt, and judges each by the columns of paper 01."""
+"""The output that row_run must give: reads the cases in its file stdin, and judges each by the columns of paper 01."""
 import re, sys
+from shared import cases
 
 def decimal(s): return int(s) if re.fullmatch(rb'0|[1-9][0-9]*', s) else None
 
@@ -48,8 +49,6 @@ def shown(version, k, line):
     answer = ' '.join(str(x) for x in r[:6]) + ' ' + r[6].hex() if r else 'not a row'
     sys.stdout.buffer.write(b'%d %d "%s": %s\n' % (version, k, line, answer.encode()))
 
-src = open(sys.argv[1]).read()
-for v, k, s in re.findall(r'case\(\s*(\d+),\s*(\d+),\s*b"(.*?)",?\s*\);', src):
-    shown(int(v), int(k), s.encode('latin1').decode('unicode_escape').encode('latin1'))
-for n in (250, 251, 256, 260):
-    shown(12, 1, b'1) 0.000 1 Rx 0123 2 0A FF'.ljust(n))
+for case in cases(sys.argv[1]):
+    version, k, line = case.split(b' ', 2)
+    shown(int(version), int(k), line[1:-1])

@@ -1,0 +1,47 @@
+// Texts with escapes: `\r`, `\n`, `\t`, a backslash as `\\`, and any byte as `\xff`. At each byte it is known what is begun by those before it.
+use base::wide;
+use digits::hex_digit;
+
+pub(crate) const NOTHING: u64 = 0;
+
+const BACKSLASH: u64 = 1;
+
+// A backslash and an x.
+const HEX: u64 = 2;
+
+// The same and a digit, which is added 16 times.
+const DIGIT: u64 = 256;
+
+// What is begun behind a byte.
+pub(crate) fn after(begun: u64, b: u8) -> u64 {
+    match begun {
+        NOTHING => {
+            if b == b'\\' {
+                return BACKSLASH;
+            }
+            NOTHING
+        }
+        BACKSLASH => {
+            if b == b'x' {
+                return HEX;
+            }
+            NOTHING
+        }
+        HEX => DIGIT + 16 * wide(hex_digit(b)),
+        _ => NOTHING,
+    }
+}
+
+// The byte that is ended by b.
+pub(crate) fn ended(begun: u64, b: u8) -> u8 {
+    match begun {
+        NOTHING => b,
+        BACKSLASH => match b {
+            b'r' => 13,
+            b'n' => 10,
+            b't' => 9,
+            _ => b,
+        },
+        _ => ((begun % 256 + wide(hex_digit(b))) % 256) as u8,
+    }
+}
