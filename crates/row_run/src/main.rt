@@ -1,7 +1,5 @@
 // Reads lines as rows, on either side of every limit: one line a case. The cases are the lines of `stdin`, which says how they are written. What it prints
 // is compared with `stdout`.
-mod escapes;
-
 use base::wide;
 use digits::hex_digit;
 use escapes::NOTHING;

@@ -11,7 +11,7 @@ use Rattle.fields.specs.Window.{LineOf, HexField, MarkField}
 use Rattle.row.specs.Row.{FromBus, FromMark, FrameData, ByteFields}
 use Rattle.row.specs.Stages.{known2, known5, known6}
 
--- From `at` on the window's line has these fields, and its CR stands at c.
+-- From `at` on the line of w has these fields, and its CR stands at c.
 pub record Held (w : List ℕ) (c at : ℕ) (fs : List (List ℕ)) : Type 0 where
   pub line : List ℕ
   pub is : LineOf line (drop at w)

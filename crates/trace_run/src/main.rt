@@ -1,6 +1,4 @@
 // Reads texts as traces: one line a case. The cases are the lines of `stdin`, which says how they are written. What it prints is compared with `stdout`.
-mod escapes;
-
 use base::wide;
 use escapes::NOTHING;
 use escapes::after;

@@ -2,7 +2,7 @@
 use base::wide;
 use digits::hex_digit;
 
-pub(crate) const NOTHING: u64 = 0;
+pub const NOTHING: u64 = 0;
 
 const BACKSLASH: u64 = 1;
 
@@ -13,7 +13,7 @@ const HEX: u64 = 2;
 const DIGIT: u64 = 256;
 
 // What is begun behind a byte.
-pub(crate) fn after(begun: u64, b: u8) -> u64 {
+pub fn after(begun: u64, b: u8) -> u64 {
     match begun {
         NOTHING => {
             if b == b'\\' {
@@ -33,7 +33,7 @@ pub(crate) fn after(begun: u64, b: u8) -> u64 {
 }
 
 // The byte that is ended by b.
-pub(crate) fn ended(begun: u64, b: u8) -> u8 {
+pub fn ended(begun: u64, b: u8) -> u8 {
     match begun {
         NOTHING => b,
         BACKSLASH => match b {
