@@ -6,3 +6,4 @@ pub mod Writers
 pub mod Exporters
 pub mod Refusals
 pub mod Refuted
+pub mod Single

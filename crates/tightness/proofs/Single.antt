@@ -1,0 +1,154 @@
+-- Wrong answers of single functions: each is refuted over the relation that the function promises.
+use Prim.Native.Nat.{ℕ, _≤_}
+use mathlib.Core.Path.{_≡_, ap, sym, _∙_}
+use mathlib.Core.Logic.{_⊎_, inl, inr}
+use mathlib.Core.List.{List, [], _∷_}
+use native.Mathlib.Omega.{arith}
+use lib.ListN.{length}
+use Rattle.digits.specs.Digits.{DecimalDigit, Digits, HexDigit, capital, small, figure, letter, none, more, Hex}
+use Rattle.digits.specs.Answer.{ReadDecimal, ReadPadded, ReadHex}
+use Rattle.digits.specs.declared.Letters.the-variants.{Capital as CapitalLetters}
+use Rattle.digits.specs.House.{glyphOf, paddedText, hexText, fixed}
+use Rattle.clock.specs.declared.DayTime.{DayTime}
+use Rattle.clock.specs.Stamp.{Time}
+use Rattle.record.specs.declared.Record.{Record}
+use Rattle.record.specs.Record.{recordOf, number, ErrorId, one, two, four, eight}
+use Rattle.record.specs.Promise.{UnpackPromise, fields, not-twenty, malformed, fieldsOf}
+use Rattle.record.proofs.Bytes.{length-bytes}
+use Rattle.fields.specs.Runs.{All}
+use Rattle.fields.specs.Runs.{more as and}
+use Rattle.fields.specs.Columns.{BusField, LengthField, remoteText, markTx, Capital}
+use Rattle.fields.specs.Window.{HexField, MarkField, rx, tx, warng, error}
+use Rattle.lines.specs.Lines.{Comment}
+
+-- Equal lists begin with the same.
+differ : {x y : ℕ} {s t : List ℕ} → x ∷ s ≡ y ∷ t → x ≡ y
+differ e = cc
+
+-- digits
+
+-- `A` is not 1, its low four bits
+pub low-bits : HexDigit 65 1 → ⊥
+low-bits (capital (figure p)) = omega (arith, p .byte)
+low-bits (capital (letter p)) = omega (arith, p .low)
+low-bits (small (figure p)) = omega (arith, p .byte)
+low-bits (small (letter p)) = omega (arith, p .low)
+
+-- no byte is no number
+pub no-digit : {n : ℕ} → ReadDecimal [] n → ⊥
+no-digit p = let h = p .spelled .some in omega arith
+
+-- 20 decimal digits and 17 hexadecimal ones are not read, and so not wrapped
+pub twenty-digits : {s : List ℕ} {n : ℕ} → length s ≡ 20 → ReadPadded s n → ⊥
+twenty-digits e p = let h = p .short in omega arith
+
+pub seventeen-digits : {s : List ℕ} {n : ℕ} → length s ≡ 17 → ReadHex s n → ⊥
+seventeen-digits e p = let h = p .short in omega arith
+
+-- ten is no figure
+pub ten-as-figure : glyphOf CapitalLetters 10 ≡ 58 → ⊥
+unfolding glyphOf
+ten-as-figure e = omega arith
+
+-- zeros are kept, and no digit is dropped
+pub zeros-dropped : paddedText 3 7 ≡ 55 ∷ [] → ⊥
+unfolding fixed
+zeros-dropped e = let z = ap length e in omega arith
+
+pub hex-digit-dropped : hexText CapitalLetters 2 18 ≡ 49 ∷ [] → ⊥
+unfolding fixed
+hex-digit-dropped e = let z = ap length e in omega arith
+
+-- record
+
+-- the data is the last of the seven fields, and not lost
+pub data-lost : recordOf (1 ∷ 2 ∷ 3 ∷ 4 ∷ 5 ∷ 6 ∷ 7 ∷ []) .«data» ≡ 0 → ⊥
+data-lost e = omega arith
+
+pub error-id-3 : ErrorId 3 → ⊥
+error-id-3 (one e) = omega arith
+error-id-3 (two e) = omega arith
+error-id-3 (four e) = omega arith
+error-id-3 (eight e) = omega arith
+
+-- 19 and 21 bytes are no record, whatever its fields
+pub not-twenty-taken : {s : List ℕ} {r : Record} → (length s ≡ 19) ⊎ (length s ≡ 21) → UnpackPromise s (0 ∷ 0 ∷ fieldsOf r) → ⊥
+not-twenty-taken (inl h) (fields {r = q} p e) = omega (arith, ap length (p .packed), length-bytes 20 (number q))
+not-twenty-taken (inr h) (fields {r = q} p e) = omega (arith, ap length (p .packed), length-bytes 20 (number q))
+not-twenty-taken h (not-twenty n e) = omega (arith, differ e)
+not-twenty-taken (inl h) (malformed n f e) = omega arith
+not-twenty-taken (inr h) (malformed n f e) = omega arith
+
+-- clock
+
+-- the last stamp is not wrapped to day 0
+pub last-stamp-wrapped : {t : DayTime} → Time 8639999999999 99999999999999 t → t .days ≡ 0 → ⊥
+last-stamp-wrapped p e = omega (arith, p .high, p .hour, p .minute, p .second, p .part)
+
+-- fields, and the fields of judged rows
+
+-- `Warnng` and `rx` are no marks, and `Tx` is not `Rx`
+pub mark-warnng : {v : ℕ} → MarkField v (87 ∷ 97 ∷ 114 ∷ 110 ∷ 110 ∷ 103 ∷ []) → ⊥
+mark-warnng (rx e) = let z = ap length e in omega arith
+mark-warnng (tx e) = let z = ap length e in omega arith
+mark-warnng (warng e) = let z = ap length e in omega arith
+mark-warnng (error e) = let z = ap length e in omega arith
+
+pub tx-is-not-rx : MarkField 0 markTx → ⊥
+tx-is-not-rx (rx e) = omega (arith, differ e)
+
+-- nine digits and `G` are no number
+pub nine-digits : {v : ℕ} {f : List ℕ} → length f ≡ 9 → HexField v f → ⊥
+nine-digits e p = let h = p .short in omega arith
+
+pub letter-g : {v : ℕ} → HexField v (71 ∷ []) → ⊥
+letter-g p = go (p .spelled .digits)
+  where
+    no : {d : ℕ} → HexDigit 71 d → ⊥
+    no (capital (figure q)) = omega (arith, q .value, q .byte)
+    no (capital (letter q)) = omega (arith, q .high, q .byte)
+    no (small (figure q)) = omega (arith, q .value, q .byte)
+    no (small (letter q)) = omega (arith, q .low, q .byte)
+
+    go : {v : ℕ} → Digits HexDigit 16 (71 ∷ []) v → ⊥
+    go (more q r e) = no q
+
+-- two digits are no length, and 0 is not 8
+pub two-digit-length : {v : ℕ} {f : List ℕ} → length f ≡ 2 → LengthField v f → ⊥
+two-digit-length e p = let z = ap length (p .spelled) in omega arith
+
+pub length-0-as-8 : LengthField 8 (48 ∷ []) → ⊥
+length-0-as-8 p = omega (arith, differ (p .spelled))
+
+-- one digit and three are no byte
+pub byte-of-two : {v : ℕ} {f : List ℕ} → Hex 2 v f → length f ≡ 2
+byte-of-two p = p .width
+
+-- `rtr`, and `RTR` with a byte behind it
+pub small-rtr : 114 ∷ 116 ∷ 114 ∷ [] ≡ remoteText → ⊥
+small-rtr e = omega (arith, differ e)
+
+pub longer-rtr : {b : ℕ} → 82 ∷ 84 ∷ 82 ∷ b ∷ [] ≡ remoteText → ⊥
+longer-rtr e = let z = ap length e in omega arith
+
+-- a small letter is in no word
+pub small-word : All Capital (97 ∷ []) → ⊥
+small-word (and p q) = omega (arith, p .high)
+
+-- a tab ends no field
+pub tab-ends : (_≡_ {A = ℕ} 9 32) ⊎ (_≡_ {A = ℕ} 9 13) → ⊥
+tab-ends (inl e) = omega arith
+tab-ends (inr e) = omega arith
+
+-- bus 16 is not its first digit
+pub bus-16-as-1 : BusField 1 (49 ∷ 54 ∷ []) → ⊥
+bus-16-as-1 p = go (p .spelled .digits)
+  where
+    go : Digits DecimalDigit 10 (49 ∷ 54 ∷ []) 1 → ⊥
+    go (more a (more b none e) h) = omega (arith, a .byte, b .byte)
+
+-- lines
+
+-- a blank before `;` makes no comment
+pub blank-before : {s : List ℕ} → Comment (32 ∷ 59 ∷ s) → ⊥
+blank-before c = omega (arith, differ (c .bytes))
