@@ -1,6 +1,10 @@
 // Texts with escapes: `\r`, `\n`, `\t`, a backslash as `\\`, and any byte as `\xff`. At each byte it is known what is begun by those before it.
 use base::wide;
 use digits::hex_digit;
+ghost use mathlib.Core.Path.{_≡_};
+ghost use mathlib.Core.List.{List, [], _∷_, _++_};
+ghost use Prim.Native.Nat.{ℕ};
+ghost use Rattle.escapes.specs.Escapes.{Stands, Begun, After};
 
 pub const NOTHING: u64 = 0;
 
@@ -13,7 +17,9 @@ const HEX: u64 = 2;
 const DIGIT: u64 = 256;
 
 // What is begun behind a byte.
-pub fn after(begun: u64, b: u8) -> u64 {
+pub fn after(begun: u64, b: u8) -> u64
+    ensures { λ r. ⌜ ((s : List ℕ) → Begun begun s → After s b r) ⌝ }
+{
     match begun {
         NOTHING => {
             if b == b'\\' {
@@ -33,7 +39,9 @@ pub fn after(begun: u64, b: u8) -> u64 {
 }
 
 // The byte that is ended by b.
-pub fn ended(begun: u64, b: u8) -> u8 {
+pub fn ended(begun: u64, b: u8) -> u8
+    ensures { λ r. ⌜ ((s : List ℕ) (x : ℕ) → Begun begun s → Stands (s ++ (b ∷ [])) x → r ≡ x) ⌝ }
+{
     match begun {
         NOTHING => b,
         BACKSLASH => match b {
