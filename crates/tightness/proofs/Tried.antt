@@ -4,12 +4,10 @@ use mathlib.Core.Path.{refl}
 use mathlib.Core.Logic.{inl, inr, ⊎-elim}
 use mathlib.Core.List.{List, [], _∷_}
 use native.Mathlib.Omega.{arith}
-use lib.Dec.{T, leb, leb→le}
 use lib.ListN.{replicate}
-use Rattle.base.proofs.Tables.{every, at}
 use Rattle.digits.specs.House.{glyphOf, fixed, spell, decimalText}
 use Rattle.clock.specs.Start.{startLimit}
-use Rattle.fields.specs.Runs.{All, empty as nothing, more as byte}
+use Rattle.fields.specs.Runs.{empty as nothing, more as byte}
 use Rattle.fields.proofs.Runs.{all-append, all-of}
 use Rattle.record.specs.declared.Record.{Record}
 use Rattle.record.specs.Bytes.{bytes}
@@ -17,9 +15,10 @@ use Rattle.record.specs.Record.{WellFormed, number}
 use Rattle.record.proofs.Bytes.{byte-below}
 use Rattle.row.specs.Carries.{Carries, v12}
 use Rattle.row.specs.House.{joined, numberText, offsetText, busTexts, markText, idText, byteTexts, dataTexts, rowTexts}
-use Rattle.trace.specs.Trace.{Trace}
+use Rattle.trace.specs.Trace.{Trace, AreBytes}
 use Rattle.trace.specs.Promise.{packed}
 use Rattle.trace.specs.House.{versionLineText, dayFraction, startLineText, rowsText, traceText, Version, none, more, Writable}
+use Rattle.trace.proofs.Beginnings.{tested, are-bytes}
 use Rattle.trace_writer.specs.Promise.{traceOf}
 use Rattle.tightness.specs.Programs.{Bytes}
 use Rattle.tightness.specs.Tight.{received, Tried, empty, later, older, two, copied}
@@ -66,29 +65,20 @@ writable copied = two-writable 1 (omega arith)
 
 -- Bytes: so many zeros, packed records, and, computed, the house spelling of each trace.
 
-abbrev pub Small : List ℕ → Type 0
-Small s = All (λ b. b < 256) s
-
-pub zeros-small : (n : ℕ) → Small (replicate n 0)
+pub zeros-small : (n : ℕ) → AreBytes (replicate n 0)
 zeros-small zero = nothing
 zeros-small (suc n) = byte {b = 0} (omega arith) (zeros-small n)
 
 abbrev pub zeros : ℕ → Bytes
 zeros n = record { list = replicate n 0; small = zeros-small n }
 
-pub packed-small : (rs : List Record) → Small (packed rs)
+pub packed-small : (rs : List Record) → AreBytes (packed rs)
 unfolding packed
 packed-small [] = nothing
 packed-small (r ∷ rs) = all-append (all-of (bytes 20 (number r)) (λ k l. byte-below 20 (number r) k)) (packed-small rs)
 
 abbrev pub recordsOf : Trace → Bytes
 recordsOf t = record { list = packed (t .records); small = packed-small (t .records) }
-
-abbrev tested : List ℕ → Type 0
-tested s = T (every (λ i b. leb (suc b) 256) 0 s)
-
-small : (s : List ℕ) → tested s → Small s
-small s p = all-of s (λ k l. leb→le _ _ (at (λ i b. leb (suc b) 256) 0 s p k l))
 
 text-tested : {t : Trace} → Tried t → tested (traceText t)
 unfolding traceText versionLineText startLineText dayFraction rowsText joined numberText offsetText busTexts markText idText byteTexts dataTexts rowTexts decimalText spell fixed glyphOf
@@ -98,8 +88,8 @@ text-tested older = tt
 text-tested two = tt
 text-tested copied = tt
 
-pub text-small : {t : Trace} → Tried t → Small (traceText t)
-text-small {t} w = small (traceText t) (text-tested w)
+pub text-small : {t : Trace} → Tried t → AreBytes (traceText t)
+text-small {t} w = are-bytes (traceText t) (text-tested w)
 
 abbrev pub textOf : {t : Trace} → Tried t → Bytes
 textOf {t} w = record { list = traceText t; small = text-small w }

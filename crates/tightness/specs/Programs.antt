@@ -1,8 +1,8 @@
 -- Any reader, any writer and any exporter, whatever the code: a function of what it is given, and when it keeps its promise.
-use Prim.Native.Nat.{ℕ, _*_, _<_}
+use Prim.Native.Nat.{ℕ, _*_}
 use mathlib.Core.List.{List, [], _∷_}
 use lib.ListN.{take, drop}
-use Rattle.fields.specs.Runs.{All}
+use Rattle.trace.specs.Trace.{AreBytes}
 use Rattle.trace.specs.Promise.{ReadPromise}
 use Rattle.trace_writer.specs.Promise.{WritePromise}
 use Rattle.ascii.specs.Promise.{ExportPromise}
@@ -11,7 +11,7 @@ use Rattle.ascii.specs.Promise.{ExportPromise}
 -- room that no answer needs.)
 pub record Bytes : Type 0 where
   pub list : List ℕ
-  pub small : All (λ b. b < 256) list
+  pub small : AreBytes list
 
 -- A reader is given a text and an output. It gives six numbers, and what the output then holds.
 pub record FromReader : Type 0 where

@@ -5,7 +5,7 @@ use mathlib.Core.Logic.{_≢_}
 use mathlib.Core.List.{List, [], _∷_, _++_, append-assoc, append-nil}
 use native.Mathlib.Decide.{decLt}
 use native.Mathlib.Omega.{arith}
-use lib.ListN.{length, drop}
+use lib.ListN.{length, drop, length-append}
 use Rattle.row_reader.specs.Answer.{lineLimit}
 use Rattle.lines.specs.Lines.{FirstLine, DollarLine}
 use Rattle.trace.specs.declared.Outcome.the-variants as outcome
@@ -15,9 +15,9 @@ use Rattle.trace.specs.Promise.{packed, stepBack, readNumbers, Lines, no
 use Rattle.lines.proofs.Theorems.{first-one}
 use Rattle.trace.proofs.Apart.{no-line}
 use Rattle.trace.proofs.One.{one-trace}
-use Rattle.trace.proofs.Cuts.{endedLine, first-more, first-whole}
+use Rattle.trace.proofs.Cuts.{endedLine, first-more, first-whole, lines-alone, lines-append}
 use Rattle.trace.proofs.Fails.{Fails, fails-refused}
-use Rattle.trace.proofs.Beginnings.{begins-fewer, Shorts, no-more, one-more, spells-shorts, shorts-after, shorts-first}
+use Rattle.trace.proofs.Beginnings.{begins-cut, begins-fewer, Shorts, no-more, one-more, spells-shorts, shorts-after, shorts-first}
 
 -- Two counts of lines in one text: what stands between.
 record Between (n m : ℕ) (front front′ rest rest′ : List ℕ) : Type 0 where
@@ -92,7 +92,7 @@ module _ {n m : ℕ} {rest rest′ text : List ℕ} (a : Reached n rest text) (b
             after = behind ++ rest′;
             first = rw (← q) at (first-more rest′ f);
             short = shorts-first (first-more d f) (shorts-after (middle ++ d) (a .lines) (append-assoc (a .front) middle d) (spells-shorts (c .spelled)));
-            begins = begins-fewer (a .front ++ endedLine this) behind (rw w at c);
+            begins = begins-fewer behind (lines-append (a .lines) (lines-alone (f .inside))) (rw w at c);
           }
 
 -- What stops a text behind n lines, with its number; the first two lines have numbers of their own.
@@ -224,7 +224,7 @@ no-stop {n = n} {rest = rest} {text = text} {t = t} h s r = go (shorts-after res
     go z (barred {l = l} {after = after} f v k) =
         let e : text ≡ (r .front ++ endedLine l) ++ after =
         r .whole ∙ ap (λ (s : List ℕ). r .front ++ s) (first-whole (f .first)) ∙ sym (append-assoc (r .front) (endedLine l) after) in
-        v (record { rest = after; trace = t; spelled = rw e at s; size = rw e at h })
+        v (begins-cut after (lines-append (r .lines) (lines-alone (f .first .inside))) (rw e at s) (omega (arith, ap length e, length-append (r .front ++ endedLine l) after)))
 
 -- What spells a trace is not refused.
 pub not-refused : {text : List ℕ} {t : Trace} {a p : ℕ} → length text ≤ sizeLimit → Spells t text → Refused text a p → ⊥

@@ -1,13 +1,17 @@
 -- With which lines some acceptable text begins: none; a version line; lines that spell a trace.
-use Prim.Native.Nat.{ℕ, _+_, _≤_}
+use Prim.Native.Nat.{ℕ, suc, _+_, _≤_}
 use mathlib.Core.Path.{_≡_, refl, ap, _∙_}
 use mathlib.Core.List.{List, [], _∷_, _++_, append-assoc, append-nil}
 use native.Mathlib.Omega.{arith}
+use lib.Dec.{T, leb, leb→le}
 use lib.ListN.{length, length-append}
+use Rattle.base.proofs.Tables.{every, at}
+use Rattle.fields.specs.Runs.{empty}
+use Rattle.fields.proofs.Runs.{all-append, all-of}
 use Rattle.record.specs.declared.Record.{Record}
 use Rattle.row_reader.specs.Answer.{lineLimit}
 use Rattle.lines.specs.Lines.{one, FirstLine, VersionLine}
-use Rattle.trace.specs.Trace.{sizeLimit, Trace, Line, Body, over, comment, row, Spells, Begins}
+use Rattle.trace.specs.Trace.{sizeLimit, Trace, Line, Body, over, comment, row, Spells, AreBytes, Begins}
 use Rattle.trace.specs.Promise.{Lines, none, line}
 use Rattle.lines.proofs.Theorems.{first-one, version-line-text, version-line-inside, startLine, start-line-text, start-line-inside}
 use Rattle.trace.proofs.Apart.{no-line}
@@ -32,10 +36,18 @@ header l w e = record {
   body = over;
 }
 
+-- Numbers that pass a test are bytes.
+abbrev pub tested : List ℕ → Type 0
+tested s = T (every (λ i b. leb (suc b) 256) 0 s)
+
+pub are-bytes : (s : List ℕ) → tested s → AreBytes s
+are-bytes s p = all-of s (λ k l. leb→le _ _ (at (λ i b. leb (suc b) 256) 0 s p k l))
+
 -- Some acceptable text begins with no line,
 pub begins-none : Begins []
 begins-none = record {
   rest = endedLine versionLine ++ endedLine startLine;
+  bytes = are-bytes (endedLine versionLine ++ endedLine startLine) tt;
   trace = _;
   spelled = header (record { first = record { inside = version-line-inside (one refl); ended = refl }; short = omega arith }) (version-line-text (one refl)) refl;
   size = omega arith;
@@ -45,6 +57,7 @@ begins-none = record {
 pub begins-version : {v : ℕ} {first front : List ℕ} → Line first [] front → VersionLine v first → Begins front
 begins-version {first = first} {front = front} l w = record {
   rest = endedLine startLine;
+  bytes = are-bytes (endedLine startLine) tt;
   trace = _;
   spelled = header (line-more (endedLine startLine) l) w refl;
   size =
@@ -55,7 +68,7 @@ begins-version {first = first} {front = front} l w = record {
 
 -- and with what spells a trace.
 pub begins-spelled : {t : Trace} {front : List ℕ} → Spells t front → length front ≤ sizeLimit → Begins front
-begins-spelled {t = t} a h = record { rest = []; trace = t; spelled = rw append-nil a; size = rw append-nil h }
+begins-spelled {t = t} a h = record { rest = []; bytes = empty; trace = t; spelled = rw append-nil a; size = rw append-nil h }
 
 -- The lines with which a text that spells a trace begins are such lines.
 pub begins-cut : {n : ℕ} {t : Trace} {front : List ℕ} (rest : List ℕ) → Lines n front → Spells t (front ++ rest)
@@ -67,13 +80,13 @@ begins-cut rest (line f none) a h =
 begins-cut rest (line {n = n} f (line {n = m} g ls)) a h = begins-spelled (spells-cut rest (omega arith) (line f (line g ls)) a .first) h
 
 -- Fewer lines begin what more do.
-pub begins-fewer : (front more : List ℕ) → Begins (front ++ more) → Begins front
-begins-fewer front more b = record {
-  rest = more ++ b .rest;
-  trace = b .trace;
-  spelled = rw append-assoc at (b .spelled);
-  size = rw append-assoc at (b .size);
-}
+pub begins-fewer : {n : ℕ} {front : List ℕ} (more : List ℕ) → Lines n front → Begins (front ++ more) → Begins front
+begins-fewer {front = front} more ls b =
+    begins-cut (more ++ b .rest) ls (rw append-assoc at (b .spelled)) (omega (arith, b .size, length-append (front ++ more) (b .rest), length-append front more))
+
+-- Where they are bytes, so is all of the text that begins with them.
+pub begins-bytes : {front : List ℕ} → AreBytes front → (b : Begins front) → AreBytes (front ++ b .rest)
+begins-bytes a b = all-append a (b .bytes)
 
 -- Every line of what spells a trace is short.
 pub data Shorts : List ℕ → Type 0 where

@@ -1,9 +1,10 @@
 -- What a trace is, and how it is spelled: a relation between its values and the bytes of a text.
-use Prim.Native.Nat.{ℕ, _+_, _≤_}
+use Prim.Native.Nat.{ℕ, _+_, _≤_, _<_}
 use mathlib.Core.Path.{_≡_}
 use mathlib.Core.List.{List, [], _∷_, _++_}
 use lib.ListN.{length}
 use Rattle.record.specs.declared.Record.{Record}
+use Rattle.fields.specs.Runs.{All}
 use Rattle.row_reader.specs.Answer.{lineLimit}
 use Rattle.row.specs.Row.{Row}
 use Rattle.lines.specs.Lines.{FirstLine, VersionLine, StartLine, Comment}
@@ -43,9 +44,15 @@ pub record Spells (t : Trace) (text : List ℕ) : Type 0 where
   pub start : StartLine (t .start) second
   pub body : Body (t .version) 1 (t .records) after-second
 
--- Some trace is spelled by a text within the size limit that begins so.
+-- Numbers that are bytes.
+abbrev pub AreBytes : List ℕ → Type 0
+AreBytes s = All (λ b. b < 256) s
+
+-- Some trace is spelled by a text within the size limit that begins so, and goes on in bytes. (What it begins with is part of the text that was
+-- lent, which is bytes.)
 pub record Begins (front : List ℕ) : Type 0 where
   pub rest : List ℕ
+  pub bytes : AreBytes rest
   pub trace : Trace
   pub spelled : Spells trace (front ++ rest)
   pub size : length (front ++ rest) ≤ sizeLimit
