@@ -10,31 +10,26 @@ use Rattle.fields.specs.Runs.{empty}
 use Rattle.fields.proofs.Runs.{all-append, all-of}
 use Rattle.record.specs.declared.Record.{Record}
 use Rattle.row_reader.specs.Answer.{lineLimit}
-use Rattle.lines.specs.Lines.{one, FirstLine, VersionLine}
+use Rattle.lines.specs.Lines.{one, FirstLine, VersionLine, StartLine}
 use Rattle.trace.specs.Trace.{sizeLimit, Trace, Line, Body, over, comment, row, Spells, AreBytes, Begins}
 use Rattle.trace.specs.Promise.{Lines, none, line}
 use Rattle.lines.proofs.Theorems.{first-one, version-line-text, version-line-inside, startLine, start-line-text, start-line-inside}
 use Rattle.trace.proofs.Apart.{no-line}
-use Rattle.trace.proofs.Cuts.{endedLine, first-more, line-more, spells-cut}
+use Rattle.trace.proofs.Cuts.{endedLine, first-more, line-more, first-alone, spells-cut}
 
 -- `;$FILEVERSION=1.1`
 abbrev versionLine : List ℕ
 versionLine = 59 ∷ 36 ∷ 70 ∷ 73 ∷ 76 ∷ 69 ∷ 86 ∷ 69 ∷ 82 ∷ 83 ∷ 73 ∷ 79 ∷ 78 ∷ 61 ∷ 49 ∷ 46 ∷ 49 ∷ []
 
 -- A version line and a start line are a trace without rows.
-header : {v : ℕ} {first rest text : List ℕ} → Line first rest text → VersionLine v first → rest ≡ endedLine startLine
-    → Spells (record { version = v; start = 0; records = [] }) text
-header l w e = record {
-  first = _;
-  after-first = _;
-  one = l;
-  version = w;
-  second = startLine;
-  after-second = [];
-  two = record { first = record { inside = start-line-inside; ended = e }; short = omega arith };
-  start = start-line-text;
-  body = over;
-}
+pub header : {v s : ℕ} {first second rest text : List ℕ} → Line first rest text → VersionLine v first → Line second [] rest → StartLine s second
+    → Spells (record { version = v; start = s; records = [] }) text
+header l w m x =
+    record { first = _; after-first = _; one = l; version = w; second = _; after-second = []; two = m; start = x; body = over }
+
+-- A start line, ended.
+start-alone : Line startLine [] (endedLine startLine)
+start-alone = record { first = first-alone start-line-inside; short = omega arith }
 
 -- Numbers that pass a test are bytes.
 abbrev pub tested : List ℕ → Type 0
@@ -49,7 +44,7 @@ begins-none = record {
   rest = endedLine versionLine ++ endedLine startLine;
   bytes = are-bytes (endedLine versionLine ++ endedLine startLine) tt;
   trace = _;
-  spelled = header (record { first = record { inside = version-line-inside (one refl); ended = refl }; short = omega arith }) (version-line-text (one refl)) refl;
+  spelled = header (record { first = record { inside = version-line-inside (one refl); ended = refl }; short = omega arith }) (version-line-text (one refl)) start-alone start-line-text;
   size = omega arith;
 }
 
@@ -59,7 +54,7 @@ begins-version {first = first} {front = front} l w = record {
   rest = endedLine startLine;
   bytes = are-bytes (endedLine startLine) tt;
   trace = _;
-  spelled = header (line-more (endedLine startLine) l) w refl;
+  spelled = header (line-more (endedLine startLine) l) w start-alone start-line-text;
   size =
       let h = l .short in
       let e : length front ≡ length first + 2 = ap length (l .first .ended) ∙ length-append first (13 ∷ 10 ∷ []) in

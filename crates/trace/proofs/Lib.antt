@@ -2,6 +2,7 @@ pub mod Answers
 pub mod Apart
 pub mod Beginnings
 pub mod Cuts
+pub mod Exactly
 pub mod Fails
 pub mod Few
 pub mod Filling

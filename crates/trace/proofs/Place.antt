@@ -62,15 +62,20 @@ never-long : {n : ℕ} {line after rest text : List ℕ} → (r : Reached n rest
 never-long {line = line} r f l more t s =
     omega (arith, shorts-first (first-there more (f .inside)) (shorts-after (endedLine line ++ more) (r .lines) refl (spells-shorts s)))
 
+-- The lines before a barred line, and this one, are within the size limit, as the text is.
+pub barred-size : {n : ℕ} {line text : List ℕ} → length text ≤ sizeLimit → (b : Barred n line text)
+    → length (b .reached .front ++ endedLine line) ≤ sizeLimit
+barred-size {line = line} h b =
+    let r = b .reached in
+    rw length-append (omega (arith, ap length (r .whole), length-append (r .front) (b .rest), ap length (first-whole (b .there .first)), length-append (endedLine line) (b .after)))
+
 -- Were such a text spelled, one within the size limit would be, too.
 never-barred : {n : ℕ} {line text : List ℕ} → length text ≤ sizeLimit → (b : Barred n line text)
     → (more : List ℕ) (t : Trace) → Spells t (b .reached .front ++ (endedLine line ++ more)) → ⊥
 never-barred {n} {line} h b more t s =
     let r = b .reached in
     let f = b .there .first in
-    let z : length (r .front ++ endedLine line) ≤ sizeLimit =
-    rw length-append (omega (arith, ap length (r .whole), length-append (r .front) (b .rest), ap length (first-whole f), length-append (endedLine line) (b .after))) in
-    b .never (begins-cut more (lines-append (r .lines) (lines-alone (f .inside))) (rw (← append-assoc) at s) z)
+    b .never (begins-cut more (lines-append (r .lines) (lines-alone (f .inside))) (rw (← append-assoc) at s) (barred-size h b))
 
 barred : {n : ℕ} {line text : List ℕ} → length text ≤ sizeLimit → Barred n line text → Placed text (n + 1)
 barred h b = placed (b .reached) (b .there .first) (never-barred h b)
