@@ -8,8 +8,9 @@ use lib.ListN.{length, drop}
 use Rattle.record.specs.declared.Record.{Record}
 use Rattle.trace_writer.specs.Promise.{Holds}
 use Rattle.trace_writer.proofs.Records.{holds-one, malformed-one, none-malformed}
+use Rattle.ascii.specs.declared.Exported.{Exported}
 use Rattle.ascii.specs.declared.Exported.the-variants as exported
-use Rattle.ascii.specs.Promise.{exportNumbers, lineCount, leftCount, Stopped, no-records, late, malformed, Given, ExportPromise, refused, no-room, done}
+use Rattle.ascii.specs.Promise.{exportNumbers, Numbered, is-done, is-refused, lineCount, leftCount, Stopped, no-records, late, malformed, Given, ExportPromise, refused, no-room, done}
 use Rattle.ascii.proofs.Exporting.{exports-one}
 
 -- Refusals 20, 22 and 23 have one number at one place.
@@ -57,6 +58,14 @@ one-export (done f k e q) (no-room g l d r) = absurd (omega (arith, ap length (g
 one-export {before = before} (done f k e q) (done g l d r) =
     let z = given-one f g in
     (e ∙ cc (z .0, z .1) ∙ sym d, q ∙ ap (λ (t : List ℕ). t ++ drop (length t) before) (z .1) ∙ sym r)
+
+-- The answer itself is the only one: an export of nothing and a refusal are told apart by `Numbered`.
+pub same-exported : {start : ℕ} {s before x y : List ℕ} (a b : Exported) → Numbered a → Numbered b
+    → ExportPromise start s before (exportNumbers a) x → ExportPromise start s before (exportNumbers b) y → (a ≡ b) × (x ≡ y)
+same-exported (exported.Done n l k) (exported.Done m i j) f g p q = let z = one-export p q in (cc (z .0), z .1)
+same-exported (exported.Done n l k) (exported.Refused m o) f (is-refused h) p q = let z : 0 ≡ m = cc (one-export p q .0) in absurd (omega arith)
+same-exported (exported.Refused n o) (exported.Done m i j) (is-refused h) g p q = let z : n ≡ 0 = cc (one-export p q .0) in absurd (omega arith)
+same-exported (exported.Refused n o) (exported.Refused m r) f g p q = let z = one-export p q in (cc (z .0), z .1)
 
 -- What can be exported is, where there is room.
 pub exports : {start : ℕ} {s text before a x : List ℕ} {rs : List Record} → Given start s rs text → length text ≤ length before

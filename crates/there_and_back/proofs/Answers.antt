@@ -5,12 +5,13 @@ use mathlib.Core.Logic.{_≢_}
 use mathlib.Core.List.{List, _++_}
 use native.Mathlib.Omega.{arith}
 use lib.ListN.{length, drop}
+use Rattle.trace.specs.declared.Outcome.{Outcome}
 use Rattle.trace.specs.declared.Outcome.the-variants as outcome
 use Rattle.trace.specs.Trace.{sizeLimit, Trace, Spells}
 use Rattle.trace.specs.House.{traceText}
 use Rattle.trace.specs.Promise.{packed, readNumbers, ReadPromise}
 use Rattle.trace.proofs.One.{one-trace}
-use Rattle.trace.proofs.Answers.{one-read, accepts}
+use Rattle.trace.proofs.Answers.{one-read, accepts, refusal, same-outcome}
 use Rattle.there_and_back.specs.Promise.{AgainPromise, same, unread, no-page}
 
 -- What is spelled, and has room, is not refused.
@@ -43,3 +44,15 @@ one-again {page = page} (no-page h s r l e p q) (same i v m k o w) = absurd (pag
 one-again (no-page h s r l e p q) (unread g d o w) = absurd (not-unread h s r g d o)
 one-again {records = records} (no-page h s r l e p q) (no-page i v m k d o w) =
     (e ∙ sym d, p ∙ ap (λ (t : Trace). packed (t .records) ++ drop (20 * length (t .records)) records) (one-trace s v) ∙ sym o, q ∙ sym w)
+
+-- The answer itself is the only one: no refusal has number 0.
+refused-again : {text records page x u : List ℕ} {n p : ℕ} → AgainPromise text records page (readNumbers (outcome.Refused n p)) x u → 1 ≤ n
+refused-again (same h s r l p q) = refusal p
+refused-again (unread f e p q) = refusal p
+refused-again {n = n} (no-page h s r l e p q) = let z : n ≡ 25 = cc in omega arith
+
+pub same-again : {text records page x y u v : List ℕ} (a b : Outcome) → AgainPromise text records page (readNumbers a) x u
+    → AgainPromise text records page (readNumbers b) y v → (a ≡ b) × (x ≡ y) × (u ≡ v)
+same-again a b p q =
+    let z = one-again p q in
+    (same-outcome a b (z .0) (λ n o e. refused-again (rw e at p)), z .1, z .2)

@@ -1,18 +1,19 @@
 -- One answer: the promise of `read` leaves one answer and one output only.
 use Prim.Native.Nat.{ℕ, _+_, _*_, _≤_, _<_}
 use mathlib.Core.Path.{_≡_, refl, ap, sym, _∙_}
-use mathlib.Core.Logic.{_≢_}
+use mathlib.Core.Logic.{_≢_, ⊎-elim}
 use mathlib.Core.List.{List, [], _∷_, _++_, append-assoc, append-nil}
 use native.Mathlib.Decide.{decLt}
 use native.Mathlib.Omega.{arith}
 use lib.ListN.{length, drop, length-append}
 use Rattle.row_reader.specs.Answer.{lineLimit}
 use Rattle.lines.specs.Lines.{FirstLine, DollarLine}
+use Rattle.trace.specs.declared.Outcome.{Outcome}
 use Rattle.trace.specs.declared.Outcome.the-variants as outcome
 use Rattle.trace.specs.Trace.{sizeLimit, Trace, Line, Spells, Begins}
 use Rattle.trace.specs.Promise
 use Rattle.trace.specs.Promise.{packed, stepBack, readNumbers, Lines, none, line, Reached, Barred, Refused, ReadPromise, large, done, no-room, refused}
-use Rattle.lines.proofs.Theorems.{first-one}
+use Rattle.lines.proofs.Theorems.{first-one, version-known}
 use Rattle.trace.proofs.Apart.{no-line}
 use Rattle.trace.proofs.One.{one-trace}
 use Rattle.trace.proofs.Cuts.{endedLine, first-more, first-whole, lines-alone, lines-append}
@@ -281,6 +282,28 @@ refused-numbers (Promise.no-second r) = (omega arith, omega arith, omega arith)
 refused-numbers (Promise.no-start b) = (omega arith, omega arith, omega arith)
 refused-numbers (Promise.dollar m b d) = (omega arith, omega arith, omega arith)
 refused-numbers (Promise.no-row m b d) = (omega arith, omega arith, omega arith)
+
+-- No refusal has number 0: where that is given, the version is not 0.
+pub refusal : {text before x : List ℕ} {n p : ℕ} → ReadPromise text before (readNumbers (outcome.Refused n p)) x → 1 ≤ n
+refusal {n = n} (large h e q) = let z : n ≡ 1 = cc in omega arith
+refusal (done {t = t} h s r e q) = let z : 0 ≡ t .version = cc in ⊎-elim (λ v. omega arith) (λ v. omega arith) (version-known (s .version))
+refusal {n = n} (no-room h s r e q) = let z : n ≡ 8 = cc in omega arith
+refusal {n = n} (refused {n = m} h f e q) = let z : n ≡ m = cc in omega (arith, refused-numbers f .0)
+
+-- So the numbers tell the answer itself,
+pub same-outcome : (a b : Outcome) → readNumbers a ≡ readNumbers b → ((n p : ℕ) → readNumbers a ≡ readNumbers (outcome.Refused n p) → 1 ≤ n)
+    → a ≡ b
+same-outcome (outcome.Done v s n b) (outcome.Done w t m c) e f = cc
+same-outcome (outcome.Done v s n b) (outcome.Refused m q) e f = let z : 0 ≡ m = cc in absurd (omega (arith, f m q e))
+same-outcome (outcome.Refused n p) (outcome.Done w t m c) e f = let z : n ≡ 0 = cc in absurd (omega (arith, f n p refl))
+same-outcome (outcome.Refused n p) (outcome.Refused m q) e f = cc
+
+-- which is the only one.
+pub same-read : {text before x y : List ℕ} (a b : Outcome) → ReadPromise text before (readNumbers a) x → ReadPromise text before (readNumbers b) y
+    → (a ≡ b) × (x ≡ y)
+same-read a b p q =
+    let z = one-read p q in
+    (same-outcome a b (z .0) (λ n o e. refusal (rw e at p)), z .1)
 
 -- And only such a text is accepted.
 pub accepted : {text before x : List ℕ} {p v s n b : ℕ} → ReadPromise text before (0 ∷ p ∷ v ∷ s ∷ n ∷ b ∷ []) x

@@ -1,16 +1,19 @@
 -- One answer: the promise of `write` leaves one answer and one output only, and says which traces are written.
-use Prim.Native.Nat.{ℕ, suc, _≤_}
+use Prim.Native.Nat.{ℕ, suc, _≤_, _<_}
 use mathlib.Core.Path.{_≡_, refl, ap, sym, _∙_}
 use mathlib.Core.Logic.{_≢_}
 use mathlib.Core.List.{List, [], _∷_, _++_}
 use native.Mathlib.Omega.{arith}
-use lib.ListN.{length, take, drop}
+use lib.ListN.{length, take, drop, length-append}
 use lib.Seq.{take-at}
 use Rattle.clock.specs.Start.{startLimit}
 use Rattle.record.specs.declared.Record.{Record}
 use Rattle.trace.specs.Promise.{packed}
 use Rattle.trace.specs.House.{traceText, Version, Each, none, more, Writable}
+use Rattle.trace.specs.Trace.{Trace}
 use Rattle.trace.proofs.Packing.{packed-length}
+use Rattle.trace.proofs.HouseTexts.{trace-text}
+use Rattle.trace_writer.specs.declared.Written.{Written}
 use Rattle.trace_writer.specs.declared.Written.the-variants as answer
 use Rattle.trace_writer.specs.Promise.{writeNumbers, Whole, Holds, FirstMalformed, FirstMisfit, Stopped, traceOf, WritePromise}
 use Rattle.trace_writer.proofs.Records.{holds-one, malformed-one, none-malformed}
@@ -111,6 +114,26 @@ one-write {version} {start} {before = before} (WritePromise.done w i l e q) (Wri
       e ∙ ap (λ (t : List ℕ). writeNumbers (answer.Done (length t))) z ∙ sym d,
       q ∙ ap (λ (t : List ℕ). t ++ drop (length t) before) z ∙ sym r,
     )
+
+-- No refusal has number 0: where that is given, some bytes are written.
+text-some : (t : Trace) → 0 < length (traceText t)
+text-some t = rw (trace-text, length-append) (omega arith)
+
+pub refusal : {version start n p : ℕ} {s before x : List ℕ} → WritePromise version start s before (writeNumbers (answer.Refused n p)) x → 1 ≤ n
+refusal {n = n} (WritePromise.refused {n = m} f e q) = let z : n ≡ m = cc in omega (arith, stopped-numbers f .0)
+refusal {n = n} (WritePromise.no-room w i l e q) = let z : n ≡ 25 = cc in omega arith
+refusal {version} {start} (WritePromise.done {rs = rs} w i l e q) =
+    let t = traceOf version start rs in
+    let z : 0 ≡ length (traceText t) = cc in
+    absurd (omega (arith, text-some t))
+
+-- So the answer itself is the only one.
+pub same-written : {version start : ℕ} {s before x y : List ℕ} (a b : Written) → WritePromise version start s before (writeNumbers a) x
+    → WritePromise version start s before (writeNumbers b) y → (a ≡ b) × (x ≡ y)
+same-written (answer.Done n) (answer.Done m) p q = let z = one-write p q in (cc (z .0), z .1)
+same-written (answer.Done n) (answer.Refused m o) p q = let z : 0 ≡ m = cc (one-write p q .0) in absurd (omega (arith, refusal q))
+same-written (answer.Refused n o) (answer.Done m) p q = let z : n ≡ 0 = cc (one-write p q .0) in absurd (omega (arith, refusal p))
+same-written (answer.Refused n o) (answer.Refused m r) p q = let z = one-write p q in (cc (z .0), z .1)
 
 -- What can be written is written, where there is room.
 pub writes : {version start : ℕ} {rs : List Record} {before a x : List ℕ} → Writable (traceOf version start rs)
