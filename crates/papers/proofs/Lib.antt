@@ -1,1 +1,3 @@
+pub mod Starts
+pub mod Rows
 pub mod Table

@@ -1,86 +1,35 @@
 -- The cases that paper 01 marks P hold of the definitions: one table, one statement.
-use Prim.Native.Nat.{ℕ, _+_, _^_}
-use mathlib.Core.Path.{_≡_, refl, ap}
-use mathlib.Core.List.{List, [], _∷_}
+use Prim.Native.Nat.{ℕ, _+_, _*_, _^_, _≤_, _<_}
+use mathlib.Core.Path.{_≡_, refl}
 use mathlib.Core.Logic.{⊎-elim}
 use native.Mathlib.Omega.{arith}
 use lib.ListN.{length}
-use Rattle.digits.specs.declared.Letters.the-variants.{Capital}
-use Rattle.digits.specs.Digits.{Hex}
-use Rattle.digits.specs.House.{glyphOf, fixed}
-use Rattle.digits.proofs.Theorems.{hex-spells, one-hex}
+use Rattle.digits.specs.House.{glyphOf, fixed, spell, decimalText}
+use Rattle.clock.specs.Start.{dayMs}
 use Rattle.clock.proofs.Cases.{day-0, day-37704, day-39878, past-limit, leap-day}
-use Rattle.fields.specs.Columns.{IdField, standard, long, LengthField}
+use Rattle.lines.specs.Lines.{StartLine}
 use Rattle.record.specs.declared.Record.{Record}
 use Rattle.record.specs.Bytes.{bytes}
-use Rattle.record.specs.Record.{WellFormed, Packs}
-use Rattle.row.specs.Row
-use Rattle.papers.specs.Cases.{Holds, first, table, Every, none, more}
+use Rattle.record.specs.Record.{WellFormed, number, Packs}
+use Rattle.row.specs.Row.{Row}
+use Rattle.row.specs.Carries.{v11, v12}
+use Rattle.row.specs.House.{joined, numberText, offsetText, busTexts, markText, idText, byteTexts, dataTexts, rowTexts, rowText}
+use Rattle.row.proofs.Spelled.{row-spelled}
+use Rattle.papers.specs.Cases.{Holds, received, table, Every, none, more}
+use Rattle.papers.proofs.Starts.{startLine, gives, gives-only}
+use Rattle.papers.proofs.Rows.{row-0800, row-20000000, row-0-byte, received-formed}
 
--- The IDs.
-
-id-7ff : Hex 4 0x7FF (48 ∷ 55 ∷ 70 ∷ 70 ∷ [])
-unfolding fixed glyphOf
-id-7ff = hex-spells Capital 4 0x7FF (omega arith)
-
-id-800 : Hex 4 0x800 (48 ∷ 56 ∷ 48 ∷ 48 ∷ [])
-unfolding fixed glyphOf
-id-800 = hex-spells Capital 4 0x800 (omega arith)
-
-id-1fffffff : Hex 8 0x1FFFFFFF (49 ∷ 70 ∷ 70 ∷ 70 ∷ 70 ∷ 70 ∷ 70 ∷ 70 ∷ [])
-unfolding fixed glyphOf
-id-1fffffff = hex-spells Capital 8 0x1FFFFFFF (omega arith)
-
-id-20000000 : Hex 8 0x20000000 (50 ∷ 48 ∷ 48 ∷ 48 ∷ 48 ∷ 48 ∷ 48 ∷ 48 ∷ [])
-unfolding fixed glyphOf
-id-20000000 = hex-spells Capital 8 0x20000000 (omega arith)
-
-no-800 : {e i : ℕ} → IdField e i (48 ∷ 56 ∷ 48 ∷ 48 ∷ []) → ⊥
-no-800 (standard z h l) = omega (arith, one-hex h id-800)
-no-800 (long z h l) = omega (arith, h .width)
-
-no-20000000 : {e i : ℕ} → IdField e i (50 ∷ 48 ∷ 48 ∷ 48 ∷ 48 ∷ 48 ∷ 48 ∷ 48 ∷ []) → ⊥
-no-20000000 (standard z h l) = omega (arith, h .width)
-no-20000000 (long z h l) = omega (arith, one-hex h id-20000000)
-
--- Lengths 0 and 8, and what stands behind them.
-
-length-0 : LengthField 0 (48 ∷ [])
-length-0 = record { small = omega arith; spelled = refl }
-
-length-8 : LengthField 8 (56 ∷ [])
-length-8 = record { small = omega arith; spelled = refl }
-
-empty : Row.ByteFields Row.Nothing (256 ^ 7) 0 0 []
-empty = Row.done Row.nothing
-
-none-left : {fs : List (List ℕ)} → Row.Nothing fs → fs ≡ []
-none-left Row.nothing = refl
-
-more-bytes : {n sum : ℕ} {f : List ℕ} → n ≡ 0 → Row.ByteFields Row.Nothing (256 ^ 7) n sum (f ∷ []) → ⊥
-more-bytes {f = f} e (Row.done h) = omega (arith, ap length (none-left h))
-more-bytes e (Row.byte h r d) = omega arith
-
-no-byte : {r : Record} → r .len ≡ 0 → Row.FrameData 0 r ((48 ∷ 65 ∷ []) ∷ []) → ⊥
-no-byte e (Row.data-bytes k h) = more-bytes e h
-no-byte e (Row.remote k d f) = let z : _≡_ {A = ℕ} 48 82 = cc in omega arith
-
--- The frames that are refused.
-
-refused-800 : (r : Record) → Row.FrameId 0 r ((48 ∷ 56 ∷ 48 ∷ 48 ∷ []) ∷ (48 ∷ []) ∷ []) → ⊥
-refused-800 r (Row.frame-id i l) = no-800 i
-
-refused-20000000 : (r : Record) → Row.FrameId 0 r ((50 ∷ 48 ∷ 48 ∷ 48 ∷ 48 ∷ 48 ∷ 48 ∷ 48 ∷ []) ∷ (48 ∷ []) ∷ []) → ⊥
-refused-20000000 r (Row.frame-id i l) = no-20000000 i
-
-refused-byte : (r : Record) → Row.FrameId 0 r ((48 ∷ 55 ∷ 70 ∷ 70 ∷ []) ∷ (48 ∷ []) ∷ (48 ∷ 65 ∷ []) ∷ []) → ⊥
-refused-byte r (Row.frame-id i (Row.frame-length l d)) =
-    let e : 48 ≡ 48 + r .len = cc (l .spelled) in
-    no-byte (omega arith) d
+-- A received frame is taken, as the house spells it.
+taken-row : (kind extended id len : ℕ) → kind ≤ 3 → extended ≤ 1 → (extended ≡ 0 → id ≤ 0x7FF) → id < 2 ^ 29 → len ≤ 8
+    → Row 11 1 (received kind extended id len) (rowText 11 1 (received kind extended id len))
+taken-row kind extended id len k x s i l = row-spelled (received-formed kind extended id len k x s i l) (v11 refl refl) (omega arith) (omega arith)
 
 -- Record 1.
-record-1 : WellFormed first
-record-1 = record {
+abbrev first : Record
+first = record { offset = 0; bus = 1; kind = 0; extended = 0; id = 0x123; len = 2; «data» = 0x0AFF000000000000 }
+
+first-formed : WellFormed first
+first-formed = record {
   offset = omega arith;
   bus = omega arith;
   kind = omega arith;
@@ -95,22 +44,35 @@ record-1 = record {
   error = λ e. absurd (omega arith);
 }
 
-record-1-packed : Packs first (0 ∷ 0 ∷ 0 ∷ 0 ∷ 0 ∷ 0 ∷ 8 ∷ 0 ∷ 0 ∷ 4 ∷ 0x8C ∷ 0x82 ∷ 0xBF ∷ 0xC0 ∷ 0 ∷ 0 ∷ 0 ∷ 0 ∷ 0 ∷ 0 ∷ [])
-unfolding bytes
-record-1-packed = record { formed = record-1; packed = refl }
+first-row : (r : Record) × Row 12 1 r (rowText 12 1 first) × Packs r (bytes 20 (number first))
+first-row = (first, row-spelled first-formed (v12 (omega arith) (omega arith)) (omega arith) (omega arith), record { formed = first-formed; packed = refl })
+
+-- 39878.6772258947
+left : StartLine (39878 * dayMs + 58512317) (startLine 39878 10 6772258947) × (58512317 < dayMs)
+left = (gives 39878 10 6772258947 (39878 * dayMs + 58512317) (omega arith) (omega arith) (omega arith) (omega arith) day-39878 (omega arith), omega arith)
+
+-- 99999.9999999999
+late : (ms : ℕ) → StartLine ms (startLine 99999 10 9999999999) → ⊥
+late ms s = omega (arith, s .limit, past-limit ms (gives-only 99999 10 9999999999 (omega arith) s))
 
 -- Every case holds.
 pub papers : Every Holds table
+unfolding bytes joined numberText offsetText busTexts markText idText byteTexts dataTexts rowTexts decimalText spell fixed glyphOf
 papers =
-    more day-0
-    (more day-37704
-    (more day-39878
-    (more past-limit
-    (more (Row.frame-id (standard refl id-7ff (omega arith)) (Row.frame-length length-0 (Row.data-bytes refl empty)))
-    (more refused-800
-    (more (Row.frame-id (long refl id-1fffffff (omega arith)) (Row.frame-length length-0 (Row.data-bytes refl empty)))
-    (more refused-20000000
-    (more refused-byte
-    (more (Row.frame-id (standard refl id-7ff (omega arith)) (Row.frame-length length-8 (Row.remote refl refl refl)))
-    (more record-1-packed
-    (more leap-day none)))))))))))
+    more (gives 0 1 0 0 (omega arith) (omega arith) (omega arith) (omega arith) day-0 (omega arith))
+    (more (gives 37704 10 5364870833 3257671952484 (omega arith) (omega arith) (omega arith) (omega arith) day-37704 (omega arith))
+    (more left
+    (more late
+    (more (taken-row 0 0 0x7FF 0 (omega arith) (omega arith) (λ e. omega arith) (omega arith) (omega arith))
+    (more row-0800
+    (more (taken-row 0 1 0x1FFFFFFF 0 (omega arith) (omega arith) (λ e. absurd (omega arith)) (omega arith) (omega arith))
+    (more row-20000000
+    (more (taken-row 0 0 0x123 0 (omega arith) (omega arith) (λ e. omega arith) (omega arith) (omega arith))
+    (more row-0-byte
+    (more (taken-row 2 0 0x123 8 (omega arith) (omega arith) (λ e. omega arith) (omega arith) (omega arith))
+    (more first-row
+    (more leap-day none))))))))))))
+
+-- They are thirteen.
+pub thirteen : length table ≡ 13
+thirteen = refl
