@@ -7,3 +7,4 @@ pub mod Exporters
 pub mod Refusals
 pub mod Refuted
 pub mod Single
+pub mod Entry

@@ -1,25 +1,27 @@
 -- Wrong answers of single functions: each is refuted over the relation that the function promises.
-use Prim.Native.Nat.{ℕ, _≤_}
-use mathlib.Core.Path.{_≡_, ap, sym, _∙_}
-use mathlib.Core.Logic.{_⊎_, inl, inr}
-use mathlib.Core.List.{List, [], _∷_}
+use Prim.Native.Nat.{ℕ, _%_}
+use mathlib.Core.Path.{_≡_, refl, ap}
+use mathlib.Core.Logic.{_⊎_, inl, inr, ⊎-elim}
+use mathlib.Core.List.{List, [], _∷_, _++_}
 use native.Mathlib.Omega.{arith}
 use lib.ListN.{length}
 use Rattle.digits.specs.Digits.{DecimalDigit, Digits, HexDigit, capital, small, figure, letter, none, more, Hex}
 use Rattle.digits.specs.Answer.{ReadDecimal, ReadPadded, ReadHex}
 use Rattle.digits.specs.declared.Letters.the-variants.{Capital as CapitalLetters}
 use Rattle.digits.specs.House.{glyphOf, paddedText, hexText, fixed}
-use Rattle.clock.specs.declared.DayTime.{DayTime}
-use Rattle.clock.specs.Stamp.{Time}
+use Rattle.clock.specs.declared.DateTime.{DateTime}
+use Rattle.clock.specs.Stamp.{Stamp}
 use Rattle.record.specs.declared.Record.{Record}
 use Rattle.record.specs.Record.{recordOf, number, ErrorId, one, two, four, eight}
 use Rattle.record.specs.Promise.{UnpackPromise, fields, not-twenty, malformed, fieldsOf}
 use Rattle.record.proofs.Bytes.{length-bytes}
-use Rattle.fields.specs.Runs.{All}
-use Rattle.fields.specs.Runs.{more as and}
+use Rattle.fields.specs.Runs.{All, empty, more as and}
 use Rattle.fields.specs.Columns.{BusField, LengthField, remoteText, markTx, Capital}
 use Rattle.fields.specs.Window.{HexField, MarkField, rx, tx, warng, error}
-use Rattle.lines.specs.Lines.{Comment}
+use Rattle.lines.specs.Lines.{Blanks, VersionText, one as version-11, two as version-12, VersionLine, Comment}
+use Rattle.lines.specs.Answer
+use Rattle.lines.specs.Answer.{VersionOr0}
+use Rattle.lines.proofs.Theorems.{version-known}
 
 -- Equal lists begin with the same.
 differ : {x y : ℕ} {s t : List ℕ} → x ∷ s ≡ y ∷ t → x ≡ y
@@ -82,8 +84,12 @@ not-twenty-taken (inr h) (malformed n f e) = omega arith
 -- clock
 
 -- the last stamp is not wrapped to day 0
-pub last-stamp-wrapped : {t : DayTime} → Time 8639999999999 99999999999999 t → t .days ≡ 0 → ⊥
-last-stamp-wrapped p e = omega (arith, p .high, p .hour, p .minute, p .second, p .part)
+pub last-stamp-wrapped : {s : DateTime} → Stamp 8639999999999 99999999999999 s → s .time .days ≡ 0 → ⊥
+last-stamp-wrapped p e = let t = p .time in omega (arith, t .high, t .hour, t .minute, t .second, t .part)
+
+-- 13 o'clock is not 1, its hour modulo 12
+pub hour-of-twelve : {s : DateTime} → Stamp 46800000 0 s → s .time .hour ≡ 13 % 12 → ⊥
+hour-of-twelve p e = let t = p .time in omega (arith, t .low, t .high, t .minute, t .second, t .part)
 
 -- fields, and the fields of judged rows
 
@@ -152,3 +158,20 @@ bus-16-as-1 p = go (p .spelled .digits)
 -- a blank before `;` makes no comment
 pub blank-before : {s : List ℕ} → Comment (32 ∷ 59 ∷ s) → ⊥
 blank-before c = omega (arith, differ (c .bytes))
+
+-- a version line is none the less one with blanks, or none, behind it;
+pub blanks-refused : {v : ℕ} {a s b : List ℕ} → Blanks a → VersionText v s → Blanks b → VersionOr0 (59 ∷ (a ++ (s ++ b))) 0 → ⊥
+blanks-refused p t q (Answer.version l) = ⊎-elim (λ e. omega arith) (λ e. omega arith) (version-known l)
+blanks-refused {v} {a} {s} {b} p t q (Answer.none e f) =
+    f v (record { before = a; text = s; after = b; bytes = refl; blanks = p; is = t; blank-end = q })
+
+-- but not with a tab
+pub tab-taken : {v : ℕ} → VersionLine v (59 ∷ 36 ∷ 70 ∷ 73 ∷ 76 ∷ 69 ∷ 86 ∷ 69 ∷ 82 ∷ 83 ∷ 73 ∷ 79 ∷ 78 ∷ 61 ∷ 49 ∷ 46 ∷ 50 ∷ 9 ∷ []) → ⊥
+tab-taken l = go (l .blanks) (l .is) (l .blank-end) (l .bytes)
+  where
+    go : {v : ℕ} {a s b : List ℕ} → Blanks a → VersionText v s → Blanks b
+        → 59 ∷ 36 ∷ 70 ∷ 73 ∷ 76 ∷ 69 ∷ 86 ∷ 69 ∷ 82 ∷ 83 ∷ 73 ∷ 79 ∷ 78 ∷ 61 ∷ 49 ∷ 46 ∷ 50 ∷ 9 ∷ [] ≡ 59 ∷ (a ++ (s ++ b)) → ⊥
+    go (and {b = x} p a) t q e = let z : 36 ≡ x = cc in omega arith
+    go empty (version-11 e) q h = let d = rw e at h in let z : _≡_ {A = ℕ} 50 49 = cc in omega arith
+    go empty (version-12 e) empty h = let d = rw e at h in omega (arith, ap length d)
+    go empty (version-12 e) (and {b = x} p b) h = let d = rw e at h in let z : 9 ≡ x = cc in omega arith

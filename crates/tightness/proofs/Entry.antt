@@ -1,0 +1,136 @@
+-- Wrong answers of `read`, `write` and `export`: each is refuted over its promise.
+use Prim.Native.Nat.{ℕ, suc, _≤_}
+use mathlib.Core.Path.{_≡_, refl, ap}
+use mathlib.Core.Logic.{_≢_, inr, ⊎-elim}
+use mathlib.Core.List.{List, [], _∷_, _++_}
+use native.Mathlib.Omega.{arith}
+use lib.ListN.{length}
+use Rattle.record.specs.declared.Record.{Record}
+use Rattle.record.specs.Record.{offsetLimit, WellFormed}
+use Rattle.fields.specs.Runs.{empty}
+use Rattle.row.specs.Row.{Row}
+use Rattle.row.specs.Carries.{Carries, v12}
+use Rattle.row.proofs.Plain.{row-some}
+use Rattle.lines.specs.Lines.{one}
+use Rattle.lines.proofs.Theorems.{version-line-text, version-line-inside, startLine, start-line-text, start-line-inside}
+use Rattle.trace.specs.Trace.{Trace, Spells, over}
+use Rattle.trace.specs.Promise.{backFrom, stepBack, ReadPromise}
+use Rattle.trace.specs.House.{traceText, none, more, Writable}
+use Rattle.trace.proofs.Answers.{one-read, accepts, accepted}
+use Rattle.trace.proofs.Cuts.{endedLine, first-alone, lines-alone, lines-append}
+use Rattle.trace.proofs.Fails.{Fails, later, at-later, no-row, fails-refused}
+use Rattle.trace.proofs.One.{one-trace}
+use Rattle.trace.proofs.There.{there, there-size}
+use Rattle.trace_writer.specs.Promise.{traceOf, Holds, WritePromise}
+use Rattle.trace_writer.proofs.Answers as writing
+use Rattle.trace_writer.proofs.Records.{holds-one}
+use Rattle.ascii.specs.Promise.{lineCount, ExportPromise}
+use Rattle.ascii.proofs.Answers as exporting
+
+-- read
+
+-- offsets 3, 2 and 1: the first step back is row 2, and not the last, row 3
+abbrev frameAt : ℕ → Record
+frameAt offset = record { offset = offset; bus = 1; kind = 0; extended = 0; id = 1; len = 0; «data» = 0 }
+
+abbrev pub falling : Trace
+falling = traceOf 12 0 (frameAt 3 ∷ frameAt 2 ∷ frameAt 1 ∷ [])
+
+frame-formed : (offset : ℕ) → offset ≤ offsetLimit → WellFormed (frameAt offset)
+frame-formed offset h = record {
+  offset = h;
+  bus = omega arith;
+  kind = omega arith;
+  extended = omega arith;
+  standard = λ e. omega arith;
+  id = omega arith;
+  len = omega arith;
+  eight = omega arith;
+  past = omega arith;
+  remote = ⊎-elim (λ e. absurd (omega arith)) (λ e. absurd (omega arith));
+  warning = λ e. absurd (omega arith);
+  error = λ e. absurd (omega arith);
+}
+
+frame-carried : (offset : ℕ) → Carries (frameAt offset) 12
+frame-carried offset = v12 (omega arith) (omega arith)
+
+falling-writable : Writable falling
+falling-writable = record {
+  version = inr refl;
+  start = omega arith;
+  few = omega arith;
+  formed = more (frame-formed 3 (omega arith)) (more (frame-formed 2 (omega arith)) (more (frame-formed 1 (omega arith)) none));
+  carried = more (frame-carried 3) (more (frame-carried 2) (more (frame-carried 1) none));
+}
+
+pub last-step-back : {before after : List ℕ} → ReadPromise (traceText falling) before (0 ∷ 0 ∷ 12 ∷ 0 ∷ 3 ∷ 3 ∷ []) after → ⊥
+unfolding backFrom stepBack
+last-step-back p =
+    let (t, s, r) = accepted p in
+    let h = there falling-writable in
+    let e = accepts (there-size falling-writable) h (rw (one-trace s h) at r) p .0 in
+    let z : _≡_ {A = ℕ} 3 2 = cc in
+    omega arith
+
+-- `;$FILEVERSION=1.1`, `;$STARTTIME=0.0` and an empty line: 7 at line 3, and not at line 4
+abbrev header : List ℕ
+header = endedLine (59 ∷ 36 ∷ 70 ∷ 73 ∷ 76 ∷ 69 ∷ 86 ∷ 69 ∷ 82 ∷ 83 ∷ 73 ∷ 79 ∷ 78 ∷ 61 ∷ 49 ∷ 46 ∷ 49 ∷ []) ++ endedLine startLine
+
+abbrev pub emptyThird : List ℕ
+emptyThird = header ++ endedLine []
+
+header-spells : Spells (traceOf 11 0 []) header
+header-spells = record {
+  first = _;
+  after-first = endedLine startLine;
+  one = record { first = record { inside = version-line-inside (one refl); ended = refl }; short = omega arith };
+  version = version-line-text (one refl);
+  second = startLine;
+  after-second = [];
+  two = record { first = first-alone start-line-inside; short = omega arith };
+  start = start-line-text;
+  body = over;
+}
+
+no-empty-row : (r : Record) → Row 11 1 r [] → ⊥
+no-empty-row r w = omega (arith, row-some w)
+
+fails-third : Fails emptyThird 7 3
+fails-third = record {
+  n = 2;
+  front = header;
+  rest = endedLine [];
+  stage = later (traceOf 11 0 []);
+  whole = refl;
+  stands = at-later {n = 2} (omega arith) (lines-append (lines-alone (version-line-inside (one refl))) (lines-alone start-line-inside)) header-spells;
+  stopped = no-row (record { first = first-alone empty; short = omega arith }) (λ c. omega (arith, ap length (c .bytes)))
+      (λ d. omega (arith, ap length (d .bytes))) no-empty-row;
+  at = refl;
+}
+
+pub place-one-more : {before after : List ℕ} → ReadPromise emptyThird before (7 ∷ 4 ∷ 0 ∷ 0 ∷ 0 ∷ 0 ∷ []) after → ⊥
+place-one-more p =
+    let h : length emptyThird ≤ 134217728 = omega arith in
+    let e = one-read p (ReadPromise.refused h (fails-refused h fails-third) refl refl) .0 in
+    let z : _≡_ {A = ℕ} 4 3 = cc in
+    omega arith
+
+-- write
+
+-- an output that is too short, and touched all the same
+pub write-touched : {version start : ℕ} {s before after : List ℕ} → WritePromise version start s before (25 ∷ 0 ∷ 0 ∷ []) after
+    → after ≢ before → ⊥
+write-touched p n = n (writing.untouched (λ e. omega arith) p)
+
+-- export
+
+pub export-touched : {start : ℕ} {s before after : List ℕ} → ExportPromise start s before (25 ∷ 0 ∷ 0 ∷ 0 ∷ 0 ∷ []) after → after ≢ before → ⊥
+export-touched p n = n (exporting.untouched (λ e. omega arith) p)
+
+-- one line more than there are records of kinds 0 and 1
+pub one-line-more : {start bytes left : ℕ} {s before after : List ℕ} {rs : List Record} → Holds rs s
+    → ExportPromise start s before (0 ∷ 0 ∷ bytes ∷ suc (lineCount rs) ∷ left ∷ []) after → ⊥
+one-line-more h p =
+    let (qs, k, e, d) = exporting.counted p in
+    omega (arith, e, ap lineCount (holds-one k h))
