@@ -1,10 +1,10 @@
 -- Wrong answers of single functions: each is refuted over the relation that the function promises.
 use Prim.Native.Nat.{ℕ, _%_}
-use mathlib.Core.Path.{_≡_, refl, ap}
-use mathlib.Core.Logic.{_⊎_, inl, inr, ⊎-elim}
+use mathlib.Core.Path.{_≡_, refl, ap, _∙_}
+use mathlib.Core.Logic.{_≢_, _⊎_, inl, inr, ⊎-elim}
 use mathlib.Core.List.{List, [], _∷_, _++_}
 use native.Mathlib.Omega.{arith}
-use lib.ListN.{length}
+use lib.ListN.{length, drop}
 use Rattle.digits.specs.Digits.{DecimalDigit, Digits, HexDigit, capital, small, figure, letter, none, more, Hex}
 use Rattle.digits.specs.Answer.{ReadDecimal, ReadPadded, ReadHex}
 use Rattle.digits.specs.declared.Letters.the-variants.{Capital as CapitalLetters}
@@ -15,9 +15,11 @@ use Rattle.record.specs.declared.Record.{Record}
 use Rattle.record.specs.Record.{recordOf, number, ErrorId, one, two, four, eight}
 use Rattle.record.specs.Promise.{UnpackPromise, fields, not-twenty, malformed, fieldsOf}
 use Rattle.record.proofs.Bytes.{length-bytes}
-use Rattle.fields.specs.Runs.{All, empty, more as and}
+use Rattle.fields.specs.declared.Scan.{Scan}
+use Rattle.fields.specs.Runs.{All, empty, more as and, Stops, halt}
 use Rattle.fields.specs.Columns.{BusField, LengthField, remoteText, markTx, Capital}
-use Rattle.fields.specs.Window.{HexField, MarkField, rx, tx, warng, error}
+use Rattle.fields.specs.Window.{Solid, FieldAt, Takes, taken, not, HexField, MarkField, rx, tx, warng, error}
+use Rattle.fields.proofs.Window.{field-one}
 use Rattle.lines.specs.Lines.{Blanks, VersionText, one as version-11, two as version-12, VersionLine, Comment}
 use Rattle.lines.specs.Answer
 use Rattle.lines.specs.Answer.{VersionOr0}
@@ -126,9 +128,10 @@ two-digit-length e p = let z = ap length (p .spelled) in omega arith
 pub length-0-as-8 : LengthField 8 (48 ∷ []) → ⊥
 length-0-as-8 p = omega (arith, differ (p .spelled))
 
--- one digit and three are no byte
-pub byte-of-two : {v : ℕ} {f : List ℕ} → Hex 2 v f → length f ≡ 2
-byte-of-two p = p .width
+-- a field of one digit, or three, is no byte: the reader's answer is 0
+pub byte-of-two : {w f rest : List ℕ} {at : ℕ} {s : Scan} → FieldAt f rest (drop at w) → length f ≢ 2 → Takes (Hex 2) w at s → s .end ≡ 0
+byte-of-two a n (taken b e h) = absurd (n (ap length (field-one a b .0) ∙ h .width))
+byte-of-two a n (not e f) = e
 
 -- `rtr`, and `RTR` with a byte behind it
 pub small-rtr : 114 ∷ 116 ∷ 114 ∷ [] ≡ remoteText → ⊥
@@ -142,9 +145,11 @@ pub small-word : All Capital (97 ∷ []) → ⊥
 small-word (and p q) = omega (arith, p .high)
 
 -- a tab ends no field
-pub tab-ends : (_≡_ {A = ℕ} 9 32) ⊎ (_≡_ {A = ℕ} 9 13) → ⊥
-tab-ends (inl e) = omega arith
-tab-ends (inr e) = omega arith
+pub tab-ends : {f rest s : List ℕ} → FieldAt f (9 ∷ rest) s → ⊥
+tab-ends a = go (a .stops)
+  where
+    go : {rest : List ℕ} → Stops Solid (9 ∷ rest) → ⊥
+    go (halt n) = n (record { blank = λ e. omega arith; end = λ e. omega arith })
 
 -- bus 16 is not its first digit
 pub bus-16-as-1 : BusField 1 (49 ∷ 54 ∷ []) → ⊥
