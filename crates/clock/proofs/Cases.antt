@@ -1,6 +1,6 @@
 -- The cases marked P that concern time; papers has them in its table.
 use Prim.Native.Nat.{ℕ, _+_, _*_, _<_}
-use mathlib.Core.Path.{_≡_, refl}
+use mathlib.Core.Path.{refl}
 use native.Mathlib.Omega.{arith}
 use Rattle.clock.specs.Start.{dayMs, startLimit, Start}
 use Rattle.clock.specs.Date.{leap, monthDays, before, beforeYear, Date}

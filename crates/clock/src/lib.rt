@@ -1,6 +1,6 @@
 // Time, in whole numbers: starts, day fractions, dates and stamps.
 ghost use mathlib.Core.Path.{_≡_};
-ghost use Prim.Native.Nat.{suc, _+_, _*_, _-_, _^_, _≤_, _<_};
+ghost use Prim.Native.Nat.{_+_, _*_, _-_, _^_, _≤_, _<_};
 ghost use Rattle.clock.specs.Start.{dayMs, startLimit, Start, DayFraction};
 ghost use Rattle.clock.specs.Date.{leap, monthDays, before, beforeYear, Date};
 ghost use Rattle.clock.specs.Stamp.{Time, Stamp};
@@ -175,7 +175,7 @@ pub fn date_of(days: u64) -> CalendarDay
 }
 
 // The time that a start and an offset give, cut down to 100 microseconds.
-pub fn time_of(start: u64, offset: u64) -> DayTime
+fn time_of(start: u64, offset: u64) -> DayTime
     requires { ⌜ (start ≤ startLimit) × (offset < 2 ^ 48) ⌝ }
     ensures { λ r. ⌜ Time start offset r ⌝ }
 {
