@@ -1,7 +1,7 @@
 -- What the readers of single lines answer.
 use Prim.Native.Nat.{ℕ, _+_, _≤_}
 use mathlib.Core.Path.{_≡_}
-use mathlib.Core.List.{List, [], _∷_}
+use mathlib.Core.List.{List}
 use lib.ListN.{length, drop}
 use lib.Seq.{slice}
 use Rattle.lines.specs.declared.Ending.{Ending}

@@ -52,7 +52,7 @@ pub fn of_fields(fields: &[u64; 7]) -> Record
 }
 
 // Eleven digits of milliseconds and three of their fraction.
-pub const OFFSET_LIMIT: u64 = 99_999_999_999_999;
+const OFFSET_LIMIT: u64 = 99_999_999_999_999;
 
 // Whether a number is an error frame's ID.
 pub fn error_id(n: u64) -> bool

@@ -1,10 +1,8 @@
 -- `record::put8` meets its contract.
 use Prim.Native.Nat.{_*_, _+_, _/_, _%_, _^_}
-use mathlib.Core.Path.{_≡_, _∙_}
+use mathlib.Core.Path.{_≡_}
 use native.Mathlib.Omega.{arith}
 use borrow.Author.Needs.{needs}
-use lib.Seq.{sets}
-use Rattle.record.specs.Bytes.{bytes}
 use Rattle.record.proofs.Bytes.{stored-join}
 use Rattle.record.proofs.put8.Statement.{statement}
 use Rattle.record.proofs.put8.Tie as tie
