@@ -320,13 +320,3 @@ untouched f (large h e q) = q
 untouched {number = number} f (done h s r e q) = let z : number ≡ 0 = cc in absurd (f z)
 untouched f (no-room h s r e q) = q
 untouched f (refused h k e q) = q
-
--- A reader that hands out the same trace always breaks the promise: one answer is right for two traces only where they agree.
-pub not-always : {text text′ before a x y : List ℕ} {t u : Trace} → length text ≤ sizeLimit → length text′ ≤ sizeLimit → Spells t text
-    → Spells u text′ → 20 * length (t .records) ≤ length before → 20 * length (u .records) ≤ length before → ReadPromise text before a x
-    → ReadPromise text′ before a y
-    → (t .version ≡ u .version) × (t .start ≡ u .start) × (length (t .records) ≡ length (u .records))
-not-always h k s v m n p q =
-    let e = accepts h s m p .0 in
-    let d = accepts k v n q .0 in
-    (cc, cc, cc)
