@@ -3,7 +3,7 @@ use Prim.Native.Nat.{ℕ, zero, suc, _+_, _*_, _-_, _/_, _%_, _^_, _≤_, _<_}
 use mathlib.Core.Path.{_≡_, refl, ap, sym, _∙_}
 use mathlib.Core.Logic.{_≢_, _⊎_, inl, inr, ⊎-elim}
 use mathlib.Core.Bool.{true, false}
-use mathlib.Core.List.{List, [], _∷_, _++_, append-nil, append-assoc}
+use mathlib.Core.List.{List, [], _∷_, _++_}
 use native.Mathlib.Nat.{add-zero, mul-comm, div-one, div-div-eq-div-mul, pow-zero, pow-suc, pow-succ', one-le-pow, div-add-mod', div-lt-iff-lt-mul, mod-lt, mul-le-mul-right, pow-le-pow-right}
 use native.Mathlib.Decide.{ℕ-discrete}
 use native.Mathlib.Numerals.{add-one}
@@ -113,24 +113,6 @@ length-steps (suc j) n h =
     let z : 1 ≤ 10 ^ j = one-le-pow j 10 (omega arith) in
     let l = rw e at (length-steps j (n / 10) (omega arith)) in
     omega (arith, length-step n (omega arith))
-
--- it is spelled by the digits of the quotient, and its last j behind them
-pub steps : (j n : ℕ) → 10 ^ j ≤ n → decimalText n ≡ decimalText (n / 10 ^ j) ++ paddedText j n
-steps zero n h = rw (pow-zero, div-one, fixed-zero, append-nil)
-steps (suc j) n h =
-    let e : n / 10 / 10 ^ j ≡ n / 10 ^ suc j = rw (div-div-eq-div-mul, mul-comm, ← pow-suc) in
-    let p = pow-suc 10 j in
-    let z : 1 ≤ 10 ^ j = one-le-pow j 10 (omega arith) in
-    let l = rw e at (steps j (n / 10) (omega arith)) in
-    step n (omega arith) ∙ ap (λ (t : List ℕ). t ++ ((48 + n % 10) ∷ [])) l ∙ rw (append-assoc, fixed-step figureOf 10 j n)
-
--- where the digits of the quotient are at hand, the last w are put behind them
-module _ (w : ℕ) {n unit : ℕ} {head : List ℕ} (e : unit ≡ 10 ^ w) (h : head ≡ decimalText (n / unit)) (l : unit ≤ n) where
-  pub behind : decimalText n ≡ head ++ paddedText w n
-  behind = rw (h, e) (steps w n (rw e at l))
-
-  pub length-behind : length (decimalText n) ≡ length head + w
-  length-behind = ap length behind ∙ length-append head (paddedText w n) ∙ rw length-fixed
 
 -- a number from 10 ^ j on and below 10 ^ (j + 1) has j + 1 digits
 pub length-told : (j n : ℕ) → 10 ^ j ≤ n → n < 10 ^ suc j → length (decimalText n) ≡ j + 1

@@ -2,7 +2,7 @@
 use base::put_text;
 use base::wide;
 ghost use mathlib.Core.Path.{_≡_};
-ghost use Prim.Native.Nat.{_+_, _/_, _^_, _≤_, _<_};
+ghost use Prim.Native.Nat.{_+_, _≤_, _<_};
 ghost use lib.ListN.{length, take};
 ghost use Rattle.base.specs.Decides.{Decides};
 ghost use Rattle.base.specs.Wrote.{Wrote};
@@ -186,18 +186,23 @@ pub fn put_padded(out: &mut [u8], at: usize, w: usize, n: u64) -> usize
     at + w
 }
 
-// Puts n in decimal at a position, where the digits before its last w are at hand as `head`, and gives the position after it: a number
-// that changes little from row to row is not divided again. `unit` is 10 ^ w.
-pub fn put_behind(out: &mut [u8], at: usize, n: u64, w: usize, unit: u64, head: &[u8]) -> usize
-    requires { ⌜ (unit ≡ 10 ^ w) × (now head ≡ decimalText (n / unit)) ⌝ }
+// Puts n in decimal at a position as `put_decimal` does, where the digits of one number, `known`, are at hand as `kept`. The writer calls itself on n over
+// ten, then puts the last digit; it ends at that number as it does at one digit, so that what has not changed since the row before is not divided again.
+pub fn put_kept(out: &mut [u8], at: usize, n: u64, known: u64, kept: &[u8]) -> usize
+    requires { ⌜ now kept ≡ decimalText known ⌝ }
     requires { ⌜ at + length (decimalText n) ≤ length (now out) ⌝ }
     ensures { λ r. ⌜ Wrote (now (out .entry)) (now (out .exit)) at r (decimalText n) ⌝ }
 {
-    if n < unit {
-        return put_decimal(out, at, n);
+    if n == known {
+        return put_text(out, at, kept);
     }
-    let p = put_text(out, at, head);
-    put_padded(out, p, w, n)
+    if n < 10 {
+        out[at] = 48 + n as u8;
+        return at + 1;
+    }
+    let q = put_kept(out, at, n / 10, known, kept);
+    out[q] = 48 + (n % 10) as u8;
+    q + 1
 }
 
 // Puts n in decimal at the start of an array, unless it is the number that stands there already, and gives how many digits it has.
@@ -214,7 +219,7 @@ pub fn renew(kept: &mut [u8; 20], digits: usize, last: u64, n: u64) -> usize
 }
 
 // The byte of a hexadecimal digit.
-pub fn glyph(letters: Letters, d: u8) -> u8
+fn glyph(letters: Letters, d: u8) -> u8
     requires { ⌜ d < 16 ⌝ }
     ensures { λ r. ⌜ r ≡ glyphOf letters d ⌝ }
 {

@@ -2,9 +2,9 @@
 use base::put_byte;
 use digits::Letters;
 use digits::decimal_length;
-use digits::put_behind;
 use digits::put_decimal;
 use digits::put_hex;
+use digits::put_kept;
 use digits::put_padded;
 use record::Record;
 ghost use mathlib.Core.Path.{_≡_};
@@ -36,7 +36,7 @@ fn put_number(out: &mut [u8], at: usize, k: u64, tens: &[u8]) -> usize
     requires { ⌜ now tens ≡ decimalText (k / 10) ⌝ }
     ensures { λ r. ⌜ Wrote (now (out .entry)) (now (out .exit)) at r (numberText k) ⌝ }
 {
-    let p = put_behind(out, at, k, 1, 10, tens);
+    let p = put_kept(out, at, k, k / 10, tens);
     put_byte(out, p, 41)
 }
 
@@ -53,7 +53,7 @@ fn put_offset(out: &mut [u8], at: usize, version: u64, offset: u64, seconds: &[u
     ensures { λ r. ⌜ Wrote (now (out .entry)) (now (out .exit)) at r (32 ∷ offsetText version offset) ⌝ }
 {
     let p = put_byte(out, at, 32);
-    let q = put_behind(out, p, offset / 1000, 3, 1000, seconds);
+    let q = put_kept(out, p, offset / 1000, offset / 1000 / 1000, seconds);
     let s = put_byte(out, q, 46);
     if version == 11 {
         return put_padded(out, s, 1, offset % 1000 / 100);

@@ -1,5 +1,4 @@
 -- `row_writer::put_number` meets its contract.
-use mathlib.Core.Path.{refl}
 use native.Mathlib.Omega.{arith}
 use borrow.Author.Needs.{needs}
 use Rattle.base.proofs.Lists.{then}
@@ -12,7 +11,7 @@ put-number-spec =
     tie.close (tie.spec
     (λ c κs.
     let a = c .before .before .before in
-    ((refl, a .pre .1), omega (arith, length-number (a .args .k))))
+    (a .pre .1, omega (arith, length-number (a .args .k))))
     (λ c κs. omega (arith, length-number (c .before .before .before .before .before .before .before .args .k)))
     (λ c. search needs)
-    (λ c. rw number (then (c .before .before .before .before .before .before .put-behind .ensures) (c .before .before .put-byte .ensures))))
+    (λ c. rw number (then (c .before .before .before .before .before .before .put-kept .ensures) (c .before .before .put-byte .ensures))))

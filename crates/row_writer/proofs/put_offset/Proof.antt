@@ -1,5 +1,4 @@
 -- `row_writer::put_offset` meets its contract.
-use mathlib.Core.Path.{refl}
 use native.Mathlib.Omega.{arith}
 use borrow.Author.Needs.{needs}
 use Rattle.base.proofs.Lists.{then}
@@ -13,7 +12,7 @@ put-offset-spec =
     (λ c κs. search needs)
     (λ c κs.
     let a = c .before .before .before .before .before .before .before in
-    ((refl, a .pre .1), omega (arith, length-offset (a .args .version) (a .args .offset))))
+    (a .pre .1, omega (arith, length-offset (a .args .version) (a .args .offset))))
     (λ c κs. let a = c .before .before .before .before .before .before .before .before .before .before .before .args in omega (arith, length-offset (a .version) (a .offset)))
     (λ c κs.
     let a = c .before .before .before .before .before .before .before .before .before .before .before .before .before .before .before .before .args in
@@ -25,7 +24,7 @@ put-offset-spec =
     let p = q .before .before .before .before in
     let a = p .before .before .before .before .args in
     let e = offset-11 (a .version) (a .offset) (c .before .before .before .before .if1 .taken) in
-    rw e (then (p .put-byte .ensures) (then (q .put-behind .ensures) (then (s .put-byte2 .ensures) (c .before .before .put-padded .ensures .0)))))
+    rw e (then (p .put-byte .ensures) (then (q .put-kept .ensures) (then (s .put-byte2 .ensures) (c .before .before .put-padded .ensures .0)))))
     (λ c κs.
     let a = c .before .before .before .before .before .before .before .before .before .before .before .before .before .before .before .before .args in
     omega (arith, length-offset (a .version) (a .offset), digits-12 (a .version) (c .before .if1 .left)))
@@ -36,4 +35,4 @@ put-offset-spec =
     let p = q .before .before .before .before in
     let a = p .before .before .before .before .args in
     let e = offset-12 (a .version) (a .offset) (c .before .before .before .before .if1 .left) in
-    rw e (then (p .put-byte .ensures) (then (q .put-behind .ensures) (then (s .put-byte2 .ensures) (c .before .before .put-padded2 .ensures .0))))))
+    rw e (then (p .put-byte .ensures) (then (q .put-kept .ensures) (then (s .put-byte2 .ensures) (c .before .before .put-padded2 .ensures .0))))))
