@@ -62,7 +62,7 @@ fn put_version_line(out: &mut [u8], at: usize, version: u64) -> usize
     ensures { λ r. ⌜ Wrote (now (out .entry)) (now (out .exit)) at r (ended (versionLineText version)) ⌝ }
 {
     let p = put_text(out, at, b";$FILEVERSION=1.");
-    let q = put_byte(out, p, 48 + (version % 10) as u8);
+    let q = put_decimal(out, p, version % 10);
     put_end(out, q)
 }
 
