@@ -5,25 +5,29 @@ from shared import line, script
 
 trace = script('trace_run')
 
-def refusal(number, place, room):
-    said = b'refused %d at line %d\r\n' % (number, place)
-    return said if len(said) <= room else b''
+def refused(number, place): return b'refused %d at line %d\r\n' % (number, place)
 
-def convert(text, records, room):
-    if len(text) > 65_536: return refusal(1, 0, room)
+def prints(text, records):
+    """what is to be printed, or None where the trace is good and its records have no room"""
+    if len(text) > 65_536: return refused(1, 0)
     (number, place, _, start, _, _), rows = trace.read(text, records)
-    if number: return refusal(number, place, room)
-    said = ''.join(line(start, *r) for r in rows if r[2] in (0, 1)).encode()
-    return said if len(said) <= room else refusal(25, 0, room)
+    if number == 8: return None
+    if number: return refused(number, place)
+    return ''.join(line(start, *r) for r in rows if r[2] in (0, 1)).encode()
 
 def part(name, text, records, room):
-    said = convert(text, records, room)
+    said = prints(text, records)
+    if said is None or len(said) > room: said = b'short'
     if len(said) > 200: said = b'%d: %s..%s' % (len(said), said[:60], said[-60:])
     sys.stdout.buffer.write(b'%s: %s\n' % (name, said))
 
 def case(name, text): part(name, text, 72_800, 313_040)
 
 def small(name, records, room): part(name, header12 + three, records, room)
+
+def remote(name, records): part(name, header12 + b'1) 0.000 1 Rx 0123 2 RTR\r\n', records, 0)
+
+def refusal(name, room): part(name, header12 + b'x\r\n', 0, room)
 
 def commented(name, full, last):
     comment = lambda n: b';' + b'x' * n + b'\r\n'
@@ -44,6 +48,6 @@ three = b'1) 0.000 1 Rx 0123 2 0A FF\r\n2) 1500.250 2 Tx 18AB0001 0\r\n3) 1500.2
 
 def value(x): return x[2:-1].encode('latin1').decode('unicode_escape').encode('latin1') if x[0] == 'b' else int(x)
 
-calls = {'case': case, 'part': part, 'small': small, 'commented': commented, 'rows': rows, 'noisy': noisy}
-for call, given in re.findall(r'\b(case|part|small|commented|rows|noisy)\(\s*((?:(?:b"[^"]*"|[0-9_]+)(?:,\s*)?)+)', open(sys.argv[1]).read()):
+calls = {f.__name__: f for f in (case, part, small, remote, refusal, commented, rows, noisy)}
+for call, given in re.findall(r'\b(%s)\(\s*((?:(?:b"[^"]*"|[0-9_]+)(?:,\s*)?)+)' % '|'.join(calls), open(sys.argv[1]).read()):
     calls[call](*map(value, re.findall(r'b"[^"]*"|[0-9_]+', given)))

@@ -1,10 +1,13 @@
 // The bench program: one trace from standard input, its ASCII export or its refusal to standard output.
+use convert::Printed;
+use convert::convert;
 use libc::STDERR_FILENO;
 use libc::STDIN_FILENO;
 use libc::STDOUT_FILENO;
 ghost use Prim.Native.Nat.{_≤_};
 ghost use mathlib.Core.Path.{_≡_};
-ghost use lib.ListN.{length};
+ghost use lib.ListN.{length, take};
+ghost use Rattle.convert.specs.Promise.{recordsRoom, pageRoom, Prints};
 
 // One byte more than the most that an input may have, so that a longer one is told from it.
 fn input_space() -> [u8; 65537]
@@ -23,6 +26,20 @@ fn page_space() -> [u8; 313040]
     ensures { λ r. ⌜ 313040 ≡ length r ⌝ }
 {
     [0; 313040]
+}
+
+// Puts what is to be printed for an input at the start of the page, which has room for it, and gives its length.
+fn paged(input: &[u8], records: &mut [u8], page: &mut [u8]) -> usize
+    requires { ⌜ (recordsRoom ≤ length (now records)) × (pageRoom ≤ length (now page)) ⌝ }
+    ensures { λ n. ⌜ n ≤ length (now (page .exit)) ⌝ }
+    ensures { λ n. ⌜ Prints (now (input .entry)) (take n (now (page .exit))) ⌝ }
+{
+    let r = convert(input, records, page);
+    match r {
+        Printed::Page(n) => n,
+        // never, with the rooms that are required
+        Printed::Short => 0,
+    }
 }
 
 // Prints the first n bytes of a page.
@@ -47,6 +64,6 @@ fn main() {
         io::write_all(STDERR_FILENO, b"bushingowl: standard input can't be read\n");
         return;
     }
-    let n = convert::printed(&input[..got], &mut records, &mut page);
+    let n = paged(&input[..got], &mut records, &mut page);
     print(&page, n);
 }

@@ -1,7 +1,7 @@
--- One answer; and with what the program lends, every input gets its export or its own refusal.
+-- One answer; what each answer says; and with what the program lends the answer is a page.
 use Prim.Native.Nat.{ℕ, _+_, _*_, _≤_, _<_}
 use mathlib.Core.Path.{_≡_, refl, ap, sym, _∙_}
-use mathlib.Core.List.{List, _∷_}
+use mathlib.Core.List.{List, [], _∷_, _++_}
 use native.Mathlib.Omega.{arith}
 use lib.ListN.{length, take, drop, length-append}
 use lib.Seq.{take-at}
@@ -15,7 +15,9 @@ use Rattle.trace.proofs.There.{read-writable}
 use Rattle.trace.proofs.Few.{rows-few}
 use Rattle.ascii.specs.Promise.{Exports}
 use Rattle.ascii.proofs.Exporting.{exports-one, export-most}
-use Rattle.convert.specs.Promise.{inputLimit, refusalText, Prints, Stops, Put, ConvertPromise, recordsRoom, pageRoom}
+use Rattle.convert.specs.declared.Printed.{Printed}
+use Rattle.convert.specs.declared.Printed.the-variants as printed
+use Rattle.convert.specs.Promise.{inputLimit, refusalText, Prints, TooShort, Put, ConvertPromise, recordsRoom, pageRoom}
 use Rattle.convert.specs.Promise as promise
 use Rattle.convert.proofs.Texts.{refusal-length}
 
@@ -36,51 +38,55 @@ one-print (promise.export h s e) (promise.large k) = absurd (omega arith)
 one-print (promise.export h s e) (promise.refused k g) = absurd (not-refused (omega arith) s g)
 one-print (promise.export h s e) (promise.export k z f) = text-one s z e f
 
-put-one : {text before x y : List ℕ} {n m : ℕ} → Put text before n x → Put text before m y → (n ≡ m) × (x ≡ y)
-put-one (promise.put h e q) (promise.put k d r) = (e ∙ sym d, q ∙ sym r)
-put-one (promise.put h e q) (promise.short k d r) = absurd (omega arith)
-put-one (promise.short h e q) (promise.put k d r) = absurd (omega arith)
-put-one (promise.short h e q) (promise.short k d r) = (e ∙ sym d, q ∙ sym r)
-
 -- Two traces of one input have as many records.
-count-one : {t u : Trace} {input : List ℕ} → Spells t input → Spells u input → length (t .records) ≡ length (u .records)
+pub count-one : {t u : Trace} {input : List ℕ} → Spells t input → Spells u input → length (t .records) ≡ length (u .records)
 count-one s z = ap (λ (t : Trace). length (t .records)) (one-trace s z)
 
-stops-one : {input : List ℕ} {records room a b p q : ℕ} → Stops input records room a p → Stops input records room b q → (a ≡ b) × (p ≡ q)
-stops-one (promise.large h) (promise.large k) = (refl, refl)
-stops-one (promise.large h) (promise.refused k f) = absurd (omega arith)
-stops-one (promise.large h) (promise.no-records k s l) = absurd (omega arith)
-stops-one (promise.large h) (promise.no-room k s l e m) = absurd (omega arith)
-stops-one (promise.refused h f) (promise.large k) = absurd (omega arith)
-stops-one (promise.refused h f) (promise.refused k g) = refused-one f g
-stops-one (promise.refused h f) (promise.no-records k s l) = absurd (not-refused (omega arith) s f)
-stops-one (promise.refused h f) (promise.no-room k s l e m) = absurd (not-refused (omega arith) s f)
-stops-one (promise.no-records h s l) (promise.large k) = absurd (omega arith)
-stops-one (promise.no-records h s l) (promise.refused k g) = absurd (not-refused (omega arith) s g)
-stops-one (promise.no-records h s l) (promise.no-records k z m) = (refl, refl)
-stops-one (promise.no-records h s l) (promise.no-room k z m e o) = absurd (omega (arith, count-one s z))
-stops-one (promise.no-room h s l e m) (promise.large k) = absurd (omega arith)
-stops-one (promise.no-room h s l e m) (promise.refused k g) = absurd (not-refused (omega arith) s g)
-stops-one (promise.no-room h s l e m) (promise.no-records k z o) = absurd (omega (arith, count-one s z))
-stops-one (promise.no-room h s l e m) (promise.no-room k z o f r) = (refl, refl)
+-- What is to be printed was put, if it had room; the records of a good trace had room.
+pub answered : {input text before after : List ℕ} {records : ℕ} {r : Printed} → Prints input text
+    → ((t : Trace) → length input ≤ inputLimit → Spells t input → 20 * length (t .records) ≤ records) → Put text before r after
+    → ConvertPromise input records before r after
+answered {input} {text} {before} {records = records} p held (promise.put l e q) = promise.page p enough e q
+  where
+    enough : TooShort input records (length before) → ⊥
+    enough (promise.no-records {t = t} h s m) = omega (arith, held t h s)
+    enough (promise.no-page o m) = omega (arith, ap length (one-print p o))
+answered p held (promise.no-room l e q) = promise.short (promise.no-page p l) e q
 
--- What is exported is not stopped.
-not-stopped : {input text : List ℕ} {records room a p : ℕ} {t : Trace} → length input ≤ inputLimit → Spells t input → 20 * length (t .records) ≤ records
-    → Exports (t .start) (t .records) text → length text ≤ room → Stops input records room a p → ⊥
-not-stopped h s l e m (promise.large k) = omega arith
-not-stopped h s l e m (promise.refused k f) = not-refused (omega arith) s f
-not-stopped h s l e m (promise.no-records k z o) = omega (arith, count-one s z)
-not-stopped h s l e m (promise.no-room k z o f r) = omega (arith, ap length (text-one s z e f))
+-- The promise leaves one answer and one page only.
+pub one-convert : {input before x y : List ℕ} {records : ℕ} {a b : Printed} → ConvertPromise input records before a x
+    → ConvertPromise input records before b y → (a ≡ b) × (x ≡ y)
+one-convert {before = before} (promise.page p f e q) (promise.page o g d r) =
+    let t = one-print p o in
+    (e ∙ ap (λ (s : List ℕ). printed.Page (length s)) t ∙ sym d, q ∙ ap (λ (s : List ℕ). s ++ drop (length s) before) t ∙ sym r)
+one-convert (promise.page p f e q) (promise.short s d r) = absurd (f s)
+one-convert (promise.short s e q) (promise.page o g d r) = absurd (g s)
+one-convert (promise.short s e q) (promise.short z d r) = (e ∙ sym d, q ∙ sym r)
 
--- The promise leaves one answer and one output only.
-pub one-convert : {input before x y : List ℕ} {records n m : ℕ} → ConvertPromise input records before n x → ConvertPromise input records before m y
-    → (n ≡ m) × (x ≡ y)
-one-convert {before = before} {x = x} {n = n} (promise.stopped s p) (promise.stopped z q) =
-    let e = stops-one s z in
-    put-one (rw (e .0, e .1) at p) q
-one-convert (promise.stopped s p) (promise.done h z l e m q) = absurd (not-stopped h z l e m s)
-one-convert (promise.done h s l e m p) (promise.stopped z q) = absurd (not-stopped h s l e m z)
-one-convert (promise.done h s l e m p) (promise.done k z o f r q) = put-one (rw (text-one s z e f) at p) q
+-- A page: what is to be printed stands in its first bytes.
+pub paged : {input before after : List ℕ} {records n : ℕ} → ConvertPromise input records before (printed.Page n) after
+    → (n ≤ length after) × Prints input (take n after)
+paged {before = before} {after = after} {n = n} (promise.page {text = text} p f e q) =
+    let k : n ≡ length text = cc in
+    (omega (arith, ap length q, length-append text (drop (length text) before)), rw (ap (take n) q ∙ take-at text (drop (length text) before) n (sym k)) p)
+paged (promise.short s e q) = let z : _≡_ {A = ℕ} 0 1 = cc in absurd (omega arith)
+
+-- Short: what is lent is too short, and the page is untouched.
+pub untouched : {input before after : List ℕ} {records : ℕ} → ConvertPromise input records before printed.Short after
+    → TooShort input records (length before) × (after ≡ before)
+untouched (promise.page p f e q) = let z : _≡_ {A = ℕ} 0 1 = cc in absurd (omega arith)
+untouched (promise.short s e q) = (s, q)
+
+-- A trace without lines whose records have room is no case of too little room, whatever the page: its answer is 0 bytes.
+pub empty-export : {input before after : List ℕ} {records : ℕ} {t : Trace} {r : Printed} → length input ≤ inputLimit → Spells t input
+    → 20 * length (t .records) ≤ records → Exports (t .start) (t .records) [] → ConvertPromise input records before r after
+    → (r ≡ printed.Page 0) × (after ≡ before)
+empty-export h s l e p =
+    one-convert p (answered (promise.export h s e) (λ u k z. omega (arith, count-one s z)) (promise.put (omega arith) refl refl))
+
+-- And 0 bytes are the answer only where nothing is to be printed.
+pub empty-page : {input before after : List ℕ} {records : ℕ} → ConvertPromise input records before (printed.Page 0) after → Prints input []
+empty-page p = paged p .1
 
 -- The place of a refusal is at most one more than the lines.
 lines-few : {n : ℕ} {s : List ℕ} → Lines n s → 2 * n ≤ length s
@@ -105,26 +111,16 @@ place-few (trace.no-row m b d) = omega (arith, reached-few (b .reached))
 refusal-few : {number place : ℕ} → number < 10 → place ≤ inputLimit + 1 → length (refusalText number place) ≤ pageRoom
 refusal-few {number} {place} h k = omega (arith, refusal-length number place, few 0 number h, few 4 place (omega arith))
 
-shown : {text before after : List ℕ} {n : ℕ} → length text ≤ length before → Put text before n after → take n after ≡ text
-shown {text} {before} {n = n} l (promise.put h e q) = ap (take n) q ∙ take-at text (drop (length text) before) n (sym e)
-shown l (promise.short h e q) = absurd (omega arith)
+-- What the program lends is never too short: a row has at least 18 bytes, a line at most 86.
+pub enough : {input : List ℕ} {records page : ℕ} → recordsRoom ≤ records → pageRoom ≤ page → TooShort input records page → ⊥
+enough h k (promise.no-records l s m) = omega (arith, rows-few s)
+enough h k (promise.no-page (promise.large l) m) = omega (arith, refusal-few {number = 1} {place = 0} (omega arith) (omega arith))
+enough h k (promise.no-page (promise.refused {number = n} {place = o} l f) m) =
+    omega (arith, refusal-few {number = n} {place = o} (omega (arith, refused-numbers f .1)) (omega (arith, place-few f)))
+enough h k (promise.no-page (promise.export l s e) m) = omega (arith, rows-few s, export-most (read-writable s .formed) e)
 
--- With what the program lends, what it prints is what is to be printed, for every input: 8 and 25 do not happen.
-pub prints : {input before after : List ℕ} {records n : ℕ} → recordsRoom ≤ records → pageRoom ≤ length before
-    → ConvertPromise input records before n after → Prints input (take n after)
-prints h k (promise.stopped (promise.large l) p) = rw (shown (omega (arith, refusal-few {number = 1} {place = 0} (omega arith) (omega arith))) p) (promise.large l)
-prints h k (promise.stopped (promise.refused {number = n} {place = o} l f) p) =
-    let r = refusal-few {number = n} {place = o} (omega (arith, refused-numbers f .1)) (omega (arith, place-few f)) in
-    rw (shown (omega arith) p) (promise.refused l f)
-prints h k (promise.stopped (promise.no-records l s m) p) = absurd (omega (arith, rows-few s))
-prints h k (promise.stopped (promise.no-room l s m e o) p) = absurd (omega (arith, rows-few s, export-most (read-writable s .formed) e))
-prints h k (promise.done l s m e o p) = rw (shown o p) (promise.export l s e)
-
--- What is to be printed is in the output.
-put-within : {text before after : List ℕ} {n : ℕ} → Put text before n after → n ≤ length after
-put-within {text} {before} (promise.put h e q) = omega (arith, ap length q, length-append text (drop (length text) before))
-put-within (promise.short h e q) = omega arith
-
-pub within : {input before after : List ℕ} {records n : ℕ} → ConvertPromise input records before n after → n ≤ length after
-within (promise.stopped s p) = put-within p
-within (promise.done h s l e m p) = put-within p
+-- So with that the answer is a page, and on it what is to be printed, for every input.
+pub prints : {input before after : List ℕ} {records : ℕ} {r : Printed} → recordsRoom ≤ records → pageRoom ≤ length before
+    → ConvertPromise input records before r after → (n : ℕ) × (r ≡ printed.Page n) × (n ≤ length after) × Prints input (take n after)
+prints h k (promise.page {text = text} p f e q) = let w = paged (rw e at (promise.page p f e q)) in (length text, e, w .0, w .1)
+prints h k (promise.short s e q) = absurd (enough h k s)

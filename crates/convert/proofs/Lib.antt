@@ -1,3 +1,3 @@
 pub mod Texts
-pub mod Ways
 pub mod Answers
+pub mod Ways

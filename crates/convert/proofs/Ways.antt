@@ -1,14 +1,16 @@
 -- The ways through `convert`, over the promises of the functions that it calls.
-use Prim.Native.Nat.{ℕ, _*_, _≤_}
-use mathlib.Core.Path.{_≡_, ap, _∙_}
-use mathlib.Core.Logic.{⊎-elim}
+use Prim.Native.Nat.{ℕ, _*_, _≤_, _<_}
+use mathlib.Core.Path.{_≡_, refl, ap, _∙_}
+use mathlib.Core.Logic.{_≢_, ⊎-elim}
 use mathlib.Core.List.{List}
 use native.Mathlib.Omega.{arith}
 use lib.ListN.{length, take}
 use Rattle.record.specs.declared.Record.{Record}
 use Rattle.trace.specs.declared.Outcome.the-variants as outcome
-use Rattle.trace.specs.Promise.{readNumbers, ReadPromise}
-use Rattle.trace.specs.House.{Writable}
+use Rattle.trace.specs.Trace.{Trace, Spells}
+use Rattle.trace.specs.Promise.{readNumbers, ReadPromise, Refused}
+use Rattle.trace.specs.House.{Version, Writable}
+use Rattle.trace.proofs.Answers.{not-refused, refused-numbers}
 use Rattle.trace.proofs.Packing.{packed-length}
 use Rattle.trace.proofs.There.{read-writable}
 use Rattle.trace_writer.specs.Promise.{Holds, traceOf}
@@ -17,23 +19,42 @@ use Rattle.trace_writer.proofs.Again.{Read, read-done}
 use Rattle.ascii.specs.declared.Exported.the-variants as exported
 use Rattle.ascii.specs.Promise.{exportNumbers, Numbered, is-refused, Exports, ExportPromise}
 use Rattle.ascii.specs.Promise as ascii
-use Rattle.convert.specs.Promise.{inputLimit, Stops, large, refused, no-records, no-room, put, ConvertPromise, done}
+use Rattle.convert.specs.declared.Printed.{Printed}
+use Rattle.convert.specs.declared.Printed.the-variants as printed
+use Rattle.convert.specs.Promise.{inputLimit, refusalText, large, refused, export, TooShort, no-records, no-page, Put, put, ConvertPromise, short}
+use Rattle.convert.proofs.Answers.{count-one, answered}
 
--- The input is refused by the reader.
-pub unread : {n p room : ℕ} {input records x : List ℕ} → length input ≤ inputLimit → ReadPromise input records (readNumbers (outcome.Refused n p)) x
-    → Stops input (length records) room n p
-unread h (ReadPromise.large l e q) = absurd (omega arith)
-unread h (ReadPromise.done {t = t} l s r e q) =
-    let d : t .version ≡ 0 = cc in
-    ⊎-elim (λ v. absurd (omega arith)) (λ v. absurd (omega arith)) (read-writable s .version)
-unread {n} {p} h (ReadPromise.no-room l s r e q) =
-    let d : n ≡ 8 = cc in
-    let f : p ≡ 0 = cc in
-    rw (d, f) (no-records h s r)
-unread {n} {p} h (ReadPromise.refused {n = m} {p = o} l f e q) =
-    let d : n ≡ m = cc in
-    let g : p ≡ o = cc in
-    rw (d, g) (refused h f)
+-- The input is too long, or is refused: its line is put, if there is room for it.
+pub too-long : {input before after : List ℕ} {records : ℕ} {r : Printed} → inputLimit < length input → Put (refusalText 1 0) before r after
+    → ConvertPromise input records before r after
+too-long h p = answered (large h) (λ t k s. omega arith) p
+
+pub refused-input : {n o : ℕ} {input before after : List ℕ} {records : ℕ} {r : Printed} → length input ≤ inputLimit → Refused input n o
+    → Put (refusalText n o) before r after → ConvertPromise input records before r after
+refused-input h f p = answered (refused h f) (λ t k s. absurd (not-refused (omega arith) s f)) p
+
+-- A refusal of the reader has no numbers of an accepted trace.
+not-done : {version : ℕ} → Version version → version ≡ 0 → ⊥
+not-done v e = ⊎-elim (λ w. omega arith) (λ w. omega arith) v
+
+-- The reader answers 8: the trace is good, and its records have no room.
+pub unheld : {n p page : ℕ} {input records x : List ℕ} → length input ≤ inputLimit
+    → ReadPromise input records (readNumbers (outcome.Refused n p)) x → n ≡ 8 → TooShort input (length records) page
+unheld h (ReadPromise.large l e q) d = absurd (omega arith)
+unheld h (ReadPromise.done {t = t} l s r e q) d = absurd (not-done (read-writable s .version) (cc))
+unheld h (ReadPromise.no-room l s r e q) d = no-records h s r
+unheld {n} h (ReadPromise.refused {n = m} l f e q) d = let g : n ≡ m = cc in absurd (omega (arith, refused-numbers f .1))
+
+-- It answers any other number: the input is refused.
+pub unread : {n p : ℕ} {input records x : List ℕ} → length input ≤ inputLimit
+    → ReadPromise input records (readNumbers (outcome.Refused n p)) x → n ≢ 8 → Refused input n p
+unread h (ReadPromise.large l e q) d = absurd (omega arith)
+unread h (ReadPromise.done {t = t} l s r e q) d = absurd (not-done (read-writable s .version) (cc))
+unread {n} h (ReadPromise.no-room l s r e q) d = let g : n ≡ 8 = cc in absurd (d g)
+unread {n} {p} h (ReadPromise.refused {n = m} {p = o} l f e q) d =
+    let g : n ≡ m = cc in
+    let k : p ≡ o = cc in
+    rw (g, k) f
 
 module _ {version start rows steps : ℕ} {input records x : List ℕ} (h : length input ≤ inputLimit) (p : ReadPromise input records (readNumbers (outcome.Done version start rows steps)) x) where
   reading : Read version start rows steps input records x
@@ -57,22 +78,23 @@ module _ {version start rows steps : ℕ} {input records x : List ℕ} (h : leng
   of-trace : {text : List ℕ} {rs : List Record} → ascii.Given start (take (20 * rows) x) rs text → Exports start (reading .records) text
   of-trace g = rw (holds-one (g .holds) held) at (g .exports)
 
-  -- Only the room can be missing,
-  pub unwritten : {n q : ℕ} {out after : List ℕ} → Numbered (exported.Refused n q) → ExportPromise start (take (20 * rows) x) out (exportNumbers (exported.Refused n q)) after
-      → Stops input (length records) (length out) n q × (after ≡ out)
+  -- The records of the trace, whatever trace it is, had room.
+  held-all : (t : Trace) → length input ≤ inputLimit → Spells t input → 20 * length (t .records) ≤ length records
+  held-all t k s = omega (arith, reading .room, count-one (reading .spelled) s)
+
+  -- Only the room on the page can be missing,
+  pub unwritten : {n q : ℕ} {page after : List ℕ} → Numbered (exported.Refused n q) → ExportPromise start (take (20 * rows) x) page (exportNumbers (exported.Refused n q)) after
+      → ConvertPromise input (length records) page printed.Short after
   unwritten k (ascii.refused f e d) = absurd (never f)
-  unwritten {n} {q} k (ascii.no-room g l e d) =
-      let a : n ≡ 25 = cc in
-      let b : q ≡ 0 = cc in
-      (rw (a, b) (no-room h (reading .spelled) (reading .room) (of-trace g) l), d)
+  unwritten k (ascii.no-room g l e d) = short (no-page (export h (reading .spelled) (of-trace g)) l) refl d
   unwritten {n} (is-refused k) (ascii.done g l e d) = let z : n ≡ 0 = cc in absurd (omega arith)
 
   -- and else the export is printed.
-  pub exported-all : {bytes lines others : ℕ} {out after : List ℕ}
-      → ExportPromise start (take (20 * rows) x) out (exportNumbers (exported.Done bytes lines others)) after
-      → ConvertPromise input (length records) out bytes after
+  pub exported-all : {bytes lines others : ℕ} {page after : List ℕ}
+      → ExportPromise start (take (20 * rows) x) page (exportNumbers (exported.Done bytes lines others)) after
+      → ConvertPromise input (length records) page (printed.Page bytes) after
   exported-all (ascii.refused f e d) = absurd (never f)
   exported-all (ascii.no-room g l e d) = let z : _≡_ {A = ℕ} 0 25 = cc in absurd (omega arith)
   exported-all {bytes} (ascii.done {text = text} g l e d) =
       let a : bytes ≡ length text = cc in
-      done h (reading .spelled) (reading .room) (of-trace g) l (put l a d)
+      answered (export h (reading .spelled) (of-trace g)) held-all (put l (ap printed.Page a) d)

@@ -7,6 +7,8 @@ use Rattle.digits.specs.House.{decimalText}
 use Rattle.trace.specs.Trace.{Trace, Spells}
 use Rattle.trace.specs.Promise.{Refused}
 use Rattle.ascii.specs.Promise.{Exports}
+use Rattle.convert.specs.declared.Printed.{Printed}
+use Rattle.convert.specs.declared.Printed.the-variants as printed
 
 -- The most bytes of an input.
 abbrev pub inputLimit : ℕ
@@ -25,28 +27,24 @@ pub data Prints (input : List ℕ) : List ℕ → Type 0 where
   export : {t : Trace} {text : List ℕ} → length input ≤ inputLimit → Spells t input → Exports (t .start) (t .records) text
       → Prints input text
 
--- The input is refused, where so many bytes are lent for records and so many for the output: also because one of them is too short.
-pub data Stops (input : List ℕ) (records room : ℕ) : ℕ → ℕ → Type 0 where
-  large : inputLimit < length input → Stops input records room 1 0
-  refused : {number place : ℕ} → length input ≤ inputLimit → Refused input number place → Stops input records room number place
-  no-records : {t : Trace} → length input ≤ inputLimit → Spells t input → records < 20 * length (t .records) → Stops input records room 8 0
-  no-room : {t : Trace} {text : List ℕ} → length input ≤ inputLimit → Spells t input → 20 * length (t .records) ≤ records
-      → Exports (t .start) (t .records) text → room < length text → Stops input records room 25 0
+-- What is lent is too short, with so many bytes for records and so many on the page: the trace is good and its records have no room, or what is
+-- to be printed has none.
+pub data TooShort (input : List ℕ) (records page : ℕ) : Type 0 where
+  no-records : {t : Trace} → length input ≤ inputLimit → Spells t input → records < 20 * length (t .records) → TooShort input records page
+  no-page : {text : List ℕ} → Prints input text → page < length text → TooShort input records page
 
--- Some text stands at the start of what the output then holds, and behind it what was there; its length is n. Where there is no room for it,
--- nothing was put, and n is 0.
-pub data Put (text before : List ℕ) (n : ℕ) (after : List ℕ) : Type 0 where
-  put : length text ≤ length before → n ≡ length text → after ≡ text ++ drop (length text) before → Put text before n after
-  short : length before < length text → n ≡ 0 → after ≡ before → Put text before n after
+-- A text stands at the start of what the page then holds, and behind it what was there; where it has no room the page is untouched.
+pub data Put (text before : List ℕ) (r : Printed) (after : List ℕ) : Type 0 where
+  put : length text ≤ length before → r ≡ printed.Page (length text) → after ≡ text ++ drop (length text) before → Put text before r after
+  no-room : length before < length text → r ≡ printed.Short → after ≡ before → Put text before r after
 
--- `convert` of an input, with so many bytes lent for records, and an output that held `before` and then holds `after`, gives the number n of
--- bytes to be printed.
-pub data ConvertPromise (input : List ℕ) (records : ℕ) (before : List ℕ) (n : ℕ) (after : List ℕ) : Type 0 where
-  stopped : {number place : ℕ} → Stops input records (length before) number place → Put (refusalText number place) before n after
-      → ConvertPromise input records before n after
-  done : {t : Trace} {text : List ℕ} → length input ≤ inputLimit → Spells t input → 20 * length (t .records) ≤ records
-      → Exports (t .start) (t .records) text → length text ≤ length before → Put text before n after
-      → ConvertPromise input records before n after
+-- `convert` of an input, with so many bytes lent for records, and a page that held `before` and then holds `after`, gives the answer r.
+pub data ConvertPromise (input : List ℕ) (records : ℕ) (before : List ℕ) (r : Printed) (after : List ℕ) : Type 0 where
+  -- what is to be printed, and behind it what was there
+  page : {text : List ℕ} → Prints input text → (TooShort input records (length before) → ⊥) → r ≡ printed.Page (length text)
+      → after ≡ text ++ drop (length text) before → ConvertPromise input records before r after
+  -- what is lent is too short, and the page is untouched
+  short : TooShort input records (length before) → r ≡ printed.Short → after ≡ before → ConvertPromise input records before r after
 
 -- What the program lends: room for the records and for the lines of every input. A row has at least 18 bytes, a record 20, a line at most 86.
 abbrev pub recordsRoom : ℕ

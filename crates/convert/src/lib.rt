@@ -6,31 +6,37 @@ use digits::decimal_length;
 use digits::put_decimal;
 use trace::Outcome;
 use trace::read;
-ghost use Prim.Native.Nat.{_≤_};
-ghost use lib.ListN.{length, take};
-ghost use Rattle.convert.specs.Promise.{recordsRoom, pageRoom, refusalText, Prints, Put, ConvertPromise};
+ghost use lib.ListN.{length};
+ghost use Rattle.convert.specs.Promise.{refusalText, Put, ConvertPromise};
 
-// Puts the line of a refusal at the start of the output, and gives its length; 0 if there is no room for it.
-fn put_refusal(out: &mut [u8], number: u64, place: u64) -> usize
-    ensures { λ n. ⌜ Put (refusalText number place) (now (out .entry)) n (now (out .exit)) ⌝ }
-{
-    let size = decimal_length(number) + decimal_length(place) + 19;
-    if out.len() < size {
-        return 0;
-    }
-    let p = put_text(out, 0, b"refused ");
-    let q = put_decimal(out, p, number);
-    let s = put_text(out, q, b" at line ");
-    let t = put_decimal(out, s, place);
-    put_text(out, t, b"\r\n")
+// How many bytes of the page are to be printed; or what was lent is too short, which is no refusal of the input.
+pub enum Printed {
+    Page(usize),
+    Short,
 }
 
-// Puts what is to be printed for an input at the start of the output, and gives its length.
-pub fn convert(input: &[u8], records: &mut [u8], out: &mut [u8]) -> usize
-    ensures { λ n. ⌜ ConvertPromise (now (input .entry)) (length (now (records .entry))) (now (out .entry)) n (now (out .exit)) ⌝ }
+// Puts the line of a refusal at the start of the page, if there is room for it.
+fn put_refusal(page: &mut [u8], number: u64, place: u64) -> Printed
+    ensures { λ r. ⌜ Put (refusalText number place) (now (page .entry)) r (now (page .exit)) ⌝ }
+{
+    let size = decimal_length(number) + decimal_length(place) + 19;
+    if page.len() < size {
+        return Printed::Short;
+    }
+    let p = put_text(page, 0, b"refused ");
+    let q = put_decimal(page, p, number);
+    let s = put_text(page, q, b" at line ");
+    let t = put_decimal(page, s, place);
+    let n = put_text(page, t, b"\r\n");
+    Printed::Page(n)
+}
+
+// Puts what is to be printed for an input at the start of the page. The bytes lent for records are scratch.
+pub fn convert(input: &[u8], records: &mut [u8], page: &mut [u8]) -> Printed
+    ensures { λ r. ⌜ ConvertPromise (now (input .entry)) (length (now (records .entry))) (now (page .entry)) r (now (page .exit)) ⌝ }
 {
     if 65_536 < input.len() {
-        return put_refusal(out, 1, 0);
+        return put_refusal(page, 1, 0);
     }
     let a = read(input, records);
     match a {
@@ -41,26 +47,25 @@ pub fn convert(input: &[u8], records: &mut [u8], out: &mut [u8]) -> usize
             step_back: _,
         } => {
             let end = (20 * rows) as usize;
-            let e = export(start, &records[0..end], out);
+            let e = export(start, &records[0..end], page);
             match e {
                 Exported::Done {
                     bytes,
                     lines: _,
                     left_out: _,
-                } => bytes,
-                Exported::Refused { number, place } => put_refusal(out, number, place),
+                } => Printed::Page(bytes),
+                Exported::Refused {
+                    number: _,
+                    place: _,
+                } => Printed::Short,
             }
         }
-        Outcome::Refused { number, place } => put_refusal(out, number, place),
+        Outcome::Refused { number, place } => {
+            // 8: the trace is good, and its records have no room
+            if number == 8 {
+                return Printed::Short;
+            }
+            put_refusal(page, number, place)
+        }
     }
-}
-
-// The same with what the program lends: what is put is what is to be printed, for every input.
-pub fn printed(input: &[u8], records: &mut [u8], page: &mut [u8]) -> usize
-    requires { ⌜ (recordsRoom ≤ length (now records)) × (pageRoom ≤ length (now page)) ⌝ }
-    ensures { λ n. ⌜ Prints (now (input .entry)) (take n (now (page .exit))) ⌝ }
-    ensures { λ n. ⌜ n ≤ length (now (page .exit)) ⌝ }
-    ensures { λ n. ⌜ ConvertPromise (now (input .entry)) (length (now (records .entry))) (now (page .entry)) n (now (page .exit)) ⌝ }
-{
-    convert(input, records, page)
 }

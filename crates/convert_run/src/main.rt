@@ -1,6 +1,8 @@
 // Converts inputs. For each it writes its name, a colon, a blank, the bytes to be printed as they are, and LF. Where there are more than 200 of
-// them, their number, a colon, the first 60, two points and the last 60. What it writes is compared with `stdout`.
+// them, their number, a colon, the first 60, two points and the last 60; where what was lent is too short, `short`. What it writes is compared
+// with `stdout`.
 use base::put_text;
+use convert::Printed;
 use digits::decimal_length;
 use digits::put_decimal;
 use libc::STDOUT_FILENO;
@@ -50,10 +52,13 @@ fn shown(page: &[u8], n: usize) {
 
 // An input, with what is lent.
 fn lent(name: &[u8], input: &[u8], records: &mut [u8], page: &mut [u8]) {
-    let n = convert::convert(input, records, page);
+    let r = convert::convert(input, records, page);
     text(name);
     text(b": ");
-    shown(page, n);
+    match r {
+        Printed::Page(n) => shown(page, n),
+        Printed::Short => text(b"short"),
+    }
     text(b"\n");
 }
 
@@ -168,29 +173,50 @@ fn small(name: &[u8], r: usize, p: usize) {
     );
 }
 
-// Its records take 60 bytes, its export 111, and a refusal 25 takes 22.
+// Its records take 60 bytes, its export 111. The line of a refusal takes 21.
 fn short() {
     small(b"page 111", 60, 111);
     small(b"page 110", 60, 110);
-    small(b"page 100", 72_800, 100);
     small(b"page 22", 60, 22);
-    small(b"page 21", 60, 21);
-    small(b"page 10", 72_800, 10);
+    small(b"page 0", 60, 0);
     small(b"records 59", 59, 313_040);
-    small(b"records 59, page 100", 59, 100);
-    small(b"records 59, page 20", 59, 20);
+    small(b"records 59, page 110", 59, 110);
+    small(b"records 0, page 0", 0, 0);
     part(
         b"no rows, records 0, page 0",
         b";$FILEVERSION=1.2\r\n;$STARTTIME=36585.5\r\n",
         0,
         0,
     );
+}
+
+// A remote frame alone: its export has no lines, and its record takes 20 bytes.
+fn remote(name: &[u8], r: usize) {
     part(
-        b"7, records 0, page 10",
+        name,
+        b";$FILEVERSION=1.2\r\n;$STARTTIME=36585.5\r\n1) 0.000 1 Rx 0123 2 RTR\r\n",
+        r,
+        0,
+    );
+}
+
+// A refusal, with no bytes for records.
+fn refusal(name: &[u8], p: usize) {
+    part(
+        name,
         b";$FILEVERSION=1.2\r\n;$STARTTIME=36585.5\r\nx\r\n",
         0,
-        10,
+        p,
     );
+}
+
+fn short_or_empty() {
+    remote(b"left out, records 20, page 0", 20);
+    remote(b"left out, records 19, page 0", 19);
+    refusal(b"7, records 0, page 21", 21);
+    refusal(b"7, records 0, page 20", 20);
+    part(b"empty, records 0, page 21", b"", 0, 21);
+    part(b"empty, records 0, page 20", b"", 0, 20);
 }
 
 // The first n bytes of a long input.
@@ -387,6 +413,7 @@ fn main() {
     wrong_lines();
     nul();
     short();
+    short_or_empty();
     binary();
     binary_lines();
     long();
