@@ -4,12 +4,13 @@ use convert::convert;
 use libc::STDERR_FILENO;
 use libc::STDIN_FILENO;
 use libc::STDOUT_FILENO;
-ghost use Prim.Native.Nat.{_≤_};
+ghost use Prim.Native.Nat.{_≤_, _<_};
 ghost use mathlib.Core.Path.{_≡_};
 ghost use lib.ListN.{length, take};
-ghost use Rattle.convert.specs.Promise.{recordsRoom, pageRoom, Prints};
+ghost use Rattle.io.specs.Counts.{Counts};
+ghost use Rattle.convert.specs.Promise.{inputLimit, recordsRoom, pageRoom, Prints};
 
-// One byte more than the most that an input may have, so that a longer one is told from it.
+// One byte more than the most that an input may have.
 fn input_space() -> [u8; 65537]
     ensures { λ r. ⌜ 65537 ≡ length r ⌝ }
 {
@@ -26,6 +27,15 @@ fn page_space() -> [u8; 313040]
     ensures { λ r. ⌜ 313040 ≡ length r ⌝ }
 {
     [0; 313040]
+}
+
+// Takes standard input into a space with room for more than an input may have: so what fills the space is too long, and no first part of it is
+// taken for a whole trace.
+fn taken(space: &mut [u8]) -> usize
+    requires { ⌜ inputLimit < length (now space) ⌝ }
+    ensures { λ n. ⌜ Counts n (now (space .exit)) ⌝ }
+{
+    io::read_full(STDIN_FILENO, space)
 }
 
 // Puts what is to be printed for an input at the start of the page, which has room for it, and gives its length.
@@ -59,7 +69,7 @@ fn main() {
     let mut input = input_space();
     let mut records = records_space();
     let mut page = page_space();
-    let got = io::read_full(STDIN_FILENO, &mut input);
+    let got = taken(&mut input);
     if failed() {
         io::write_all(STDERR_FILENO, b"bushingowl: standard input can't be read\n");
         return;
