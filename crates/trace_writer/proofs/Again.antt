@@ -110,3 +110,15 @@ again {rows = rows} {steps = steps} {page = page} p q l g =
     let k : stepBack (w .0) ≡ steps = ap stepBack e ∙ sym (r .stepped) in
     let z = house-read page (w .1) (w .3) (w .4) (omega arith) g in
     (z .0 ∙ cc, z .1 ∙ cc (n, w .2))
+
+-- Any trace that was read can be written, given room, and read again the same.
+pub read-again : {version start rows steps : ℕ} {text out x page c y : List ℕ}
+    → ReadPromise text out (readNumbers (outcome.Done version start rows steps)) x → WritePromise version start (take (20 * rows) x) page c y
+    → (t : Trace) × Spells t text
+    × (length (traceText t) ≤ length page
+    → (c ≡ writeNumbers (written.Done (length (traceText t))))
+    × ((other d z : List ℕ) → 20 * rows ≤ length other → ReadPromise (take (length (traceText t)) y) other d z
+    → (d ≡ readNumbers (outcome.Done version start rows steps)) × (z ≡ take (20 * rows) x ++ drop (20 * rows) other)))
+read-again p q =
+    let w = read-writes p q in
+    (w .0, w .1, λ l. (w .2 l .0, λ other d z k g. again p (rw (w .2 l .0) at q) k g))
