@@ -14,6 +14,10 @@ ghost use Rattle.fields.specs.Runs.{All};
 ghost use Rattle.fields.specs.Columns.{NumberField, OffsetField, BusField, LengthField, Capital, remoteText};
 ghost use Rattle.fields.specs.Window.{Lined, Solid, FieldAt, Starts, Scanned, Takes, HexField, MarkField};
 
+// How many bytes a window has. A row is read from a window, behind a thin reference: over a slice each gap and each field would be a real
+// call with two numbers more.
+pub const WINDOW: usize = 4096;
+
 // What was read at a place: the place behind it, or 0, and its number.
 pub struct Scan {
     pub end: usize,
@@ -38,7 +42,7 @@ fn none() -> Scan
 }
 
 // The decimal digits from a place on, at most twelve.
-fn decimal(w: &[u8; 256], at: usize) -> Scan
+fn decimal(w: &[u8; WINDOW], at: usize) -> Scan
     requires { ⌜ Lined (drop at (now w)) ⌝ }
     ensures { λ s. ⌜ Scanned DecimalDigit 10 12 (now (w .entry)) at s ⌝ }
 {
@@ -60,7 +64,7 @@ fn decimal(w: &[u8; 256], at: usize) -> Scan
 }
 
 // The hexadecimal digits from a place on, at most nine.
-fn hexadecimal(w: &[u8; 256], at: usize) -> Scan
+fn hexadecimal(w: &[u8; WINDOW], at: usize) -> Scan
     requires { ⌜ Lined (drop at (now w)) ⌝ }
     ensures { λ s. ⌜ Scanned HexDigit 16 9 (now (w .entry)) at s ⌝ }
 {
@@ -78,7 +82,7 @@ fn hexadecimal(w: &[u8; 256], at: usize) -> Scan
 }
 
 // The row number k and `)`.
-pub fn number_field(w: &[u8; 256], at: usize, k: u64) -> Scan
+pub fn number_field(w: &[u8; WINDOW], at: usize, k: u64) -> Scan
     requires { ⌜ Starts (now w) at ⌝ }
     ensures { λ s. ⌜ Takes (λ v f. NumberField k f) (now (w .entry)) at s ⌝ }
 {
@@ -110,7 +114,7 @@ pub fn number_field(w: &[u8; 256], at: usize, k: u64) -> Scan
 }
 
 // An offset with so many digits behind its point, as microseconds.
-pub fn offset_field(w: &[u8; 256], at: usize, digits: usize) -> Scan
+pub fn offset_field(w: &[u8; WINDOW], at: usize, digits: usize) -> Scan
     requires { ⌜ Starts (now w) at × ((digits ≡ 1) ⊎ (digits ≡ 3)) ⌝ }
     ensures { λ s. ⌜ Takes (OffsetField digits) (now (w .entry)) at s ⌝ }
 {
@@ -152,7 +156,7 @@ pub fn offset_field(w: &[u8; 256], at: usize, digits: usize) -> Scan
 }
 
 // A bus.
-pub fn bus_field(w: &[u8; 256], at: usize) -> Scan
+pub fn bus_field(w: &[u8; WINDOW], at: usize) -> Scan
     requires { ⌜ Starts (now w) at ⌝ }
     ensures { λ s. ⌜ Takes BusField (now (w .entry)) at s ⌝ }
 {
@@ -178,7 +182,7 @@ pub fn bus_field(w: &[u8; 256], at: usize) -> Scan
 }
 
 // A mark that starts with this byte and goes on with `x`.
-fn short_mark(w: &[u8; 256], at: usize, value: u64) -> Scan
+fn short_mark(w: &[u8; WINDOW], at: usize, value: u64) -> Scan
     requires { ⌜ Starts (now w) at ⌝ }
     ensures { λ s. ⌜ Takes (λ v f. (f ≡ getD (now (w .entry)) at 0 ∷ 120 ∷ []) × (v ≡ value)) (now (w .entry)) at s ⌝ }
 {
@@ -193,7 +197,7 @@ fn short_mark(w: &[u8; 256], at: usize, value: u64) -> Scan
 }
 
 // A mark that starts with this byte and goes on with these four.
-fn long_mark(w: &[u8; 256], at: usize, a: u8, b: u8, c: u8, d: u8, value: u64) -> Scan
+fn long_mark(w: &[u8; WINDOW], at: usize, a: u8, b: u8, c: u8, d: u8, value: u64) -> Scan
     requires { ⌜ Starts (now w) at × Solid a × Solid b × Solid c × Solid d ⌝ }
     ensures { λ s. ⌜ Takes (λ v f. (f ≡ getD (now (w .entry)) at 0 ∷ a ∷ b ∷ c ∷ d ∷ []) × (v ≡ value)) (now (w .entry)) at s ⌝ }
 {
@@ -217,7 +221,7 @@ fn long_mark(w: &[u8; 256], at: usize, a: u8, b: u8, c: u8, d: u8, value: u64) -
 }
 
 // `Rx`, `Tx`, `Warng` or `Error`. No branch tells `Rx` from `Tx`: a trace mixes the two.
-pub fn mark_field(w: &[u8; 256], at: usize) -> Scan
+pub fn mark_field(w: &[u8; WINDOW], at: usize) -> Scan
     requires { ⌜ Starts (now w) at ⌝ }
     ensures { λ s. ⌜ Takes MarkField (now (w .entry)) at s ⌝ }
 {
@@ -232,7 +236,7 @@ pub fn mark_field(w: &[u8; 256], at: usize) -> Scan
 }
 
 // A hexadecimal number of at most eight digits.
-pub fn hex_field(w: &[u8; 256], at: usize) -> Scan
+pub fn hex_field(w: &[u8; WINDOW], at: usize) -> Scan
     requires { ⌜ Starts (now w) at ⌝ }
     ensures { λ s. ⌜ Takes HexField (now (w .entry)) at s ⌝ }
 {
@@ -255,7 +259,7 @@ pub fn hex_field(w: &[u8; 256], at: usize) -> Scan
 }
 
 // A length.
-pub fn length_field(w: &[u8; 256], at: usize) -> Scan
+pub fn length_field(w: &[u8; WINDOW], at: usize) -> Scan
     requires { ⌜ Starts (now w) at ⌝ }
     ensures { λ s. ⌜ Takes LengthField (now (w .entry)) at s ⌝ }
 {
@@ -277,7 +281,7 @@ pub fn length_field(w: &[u8; 256], at: usize) -> Scan
 }
 
 // A byte of two hexadecimal digits.
-pub fn byte_field(w: &[u8; 256], at: usize) -> Scan
+pub fn byte_field(w: &[u8; WINDOW], at: usize) -> Scan
     requires { ⌜ Starts (now w) at ⌝ }
     ensures { λ s. ⌜ Takes (Hex 2) (now (w .entry)) at s ⌝ }
 {
@@ -298,7 +302,7 @@ pub fn byte_field(w: &[u8; 256], at: usize) -> Scan
 }
 
 // `RTR`.
-pub fn remote_field(w: &[u8; 256], at: usize) -> Scan
+pub fn remote_field(w: &[u8; WINDOW], at: usize) -> Scan
     requires { ⌜ Starts (now w) at ⌝ }
     ensures { λ s. ⌜ Takes (λ v f. f ≡ remoteText) (now (w .entry)) at s ⌝ }
 {
@@ -322,7 +326,7 @@ pub fn remote_field(w: &[u8; 256], at: usize) -> Scan
 }
 
 // A word of capital letters.
-pub fn word_field(w: &[u8; 256], at: usize) -> Scan
+pub fn word_field(w: &[u8; WINDOW], at: usize) -> Scan
     requires { ⌜ Starts (now w) at ⌝ }
     ensures { λ s. ⌜ Takes (λ v f. All Capital f) (now (w .entry)) at s ⌝ }
 {

@@ -1,4 +1,4 @@
--- The stages of the row reader: what its functions promise each other, and the cycle that calls them.
+-- The stages of the row reader: what a state knows of the record, and what a field, or the end of the line, makes of it.
 use Prim.Native.Nat.{ℕ, _+_, _*_, _-_, _/_, _^_, _≤_}
 use mathlib.Core.Path.{_≡_}
 use mathlib.Core.Bool.{Bool, true, false}

@@ -1,9 +1,6 @@
-// One row of a trace: the stages in which it is read.
-mod stages;
-
+// One row of a trace: the stages in which it is read. What each stage does to the state, field by field, is in `specs/Stages`, with a law for
+// each in `proofs/`; `row_reader` walks through them.
 use record::Record;
-pub use stages::complete;
-pub use stages::take_field;
 
 // The place value of the first of eight data bytes: 256 ^ 7.
 pub const FIRST_PLACE: u64 = 72057594037927936;

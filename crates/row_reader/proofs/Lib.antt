@@ -1,3 +1,6 @@
-pub mod Cycle
+pub mod Chain
+pub mod Columns
 pub mod One
+pub mod Seven
+pub mod Walk
 pub mod Whole

@@ -12,7 +12,7 @@ use Rattle.row.proofs.One.{row-one}
 use Rattle.row_reader.specs.declared.Reading.{Reading}
 use Rattle.row_reader.specs.declared.Reading.the-variants.{Is, Not}
 use Rattle.row_reader.specs.Answer.{ReadsRow}
-use Rattle.row_reader.specs.Reader.{Skipped}
+use Rattle.row_reader.specs.Chain.{Skipped}
 
 -- Blanks end at one place.
 pub skipped-one : {w : List ℕ} {at a b : ℕ} → Skipped w at a → Skipped w at b → a ≡ b

@@ -74,23 +74,23 @@ filled-length {s} {before} {now} {n} {i} f =
 
 -- The answer for a line that is not read to its end, and for one that is.
 
-pub not-read : {v k e : ℕ} {s out : List ℕ} (rest : List ℕ) → ((line : List ℕ) → LineOf line (s ++ (13 ∷ rest)) → RowFound v k line out e)
+pub not-read : {v k e : ℕ} {s out : List ℕ} (rest : List ℕ) → ((line : List ℕ) → LineOf line (s ++ (13 ∷ rest)) → RowFound v k 0 line out e)
     → (e ≡ length s + 1 → ⊥) → (r : Record) → Row v k r s → ⊥
 not-read {v} {k} {e} {s} {out} rest f n r w = let x = framed s rest in go (x .all) (f (x .line) (x .is))
   where
     plain : All NoEnd s
     plain = all-map (λ b p. p .0) (row-plain w)
 
-    go : {line : List ℕ} → (line ≡ s) ⊎ ((more : List ℕ) × (s ≡ line ++ (13 ∷ more))) → RowFound v k line out e → ⊥
+    go : {line : List ℕ} → (line ≡ s) ⊎ ((more : List ℕ) × (s ≡ line ++ (13 ∷ more))) → RowFound v k 0 line out e → ⊥
     go {line} (inr (m, q)) a = cut-early line m (rw q at plain)
     go (inl q) (row-found u o z) = n (omega (arith, ap length q))
     go (inl q) (no-row z g) = g r (rw (← q) at w)
 
-pub is-read : {v k e : ℕ} {s out : List ℕ} (rest : List ℕ) → ((line : List ℕ) → LineOf line (s ++ (13 ∷ rest)) → RowFound v k line out e)
+pub is-read : {v k e : ℕ} {s out : List ℕ} (rest : List ℕ) → ((line : List ℕ) → LineOf line (s ++ (13 ∷ rest)) → RowFound v k 0 line out e)
     → e ≡ length s + 1 → Row v k (recordOf out) s
 is-read {v} {k} {e} {s} {out} rest f z = let x = framed s rest in go (x .all) (f (x .line) (x .is))
   where
-    go : {line : List ℕ} → (line ≡ s) ⊎ ((more : List ℕ) × (s ≡ line ++ (13 ∷ more))) → RowFound v k line out e → Row v k (recordOf out) s
+    go : {line : List ℕ} → (line ≡ s) ⊎ ((more : List ℕ) × (s ≡ line ++ (13 ∷ more))) → RowFound v k 0 line out e → Row v k (recordOf out) s
     go {line} (inr (m, q)) (row-found u o y) = absurd (omega (arith, ap length q ∙ length-append line (13 ∷ m)))
     go (inr q) (no-row y f) = absurd (omega arith)
     go (inl q) (row-found u o y) = rw (o) (rw q at u)

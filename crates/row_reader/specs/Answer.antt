@@ -1,5 +1,5 @@
 -- What the row reader answers.
-use Prim.Native.Nat.{ℕ, suc, _≤_}
+use Prim.Native.Nat.{ℕ, suc, _+_, _≤_}
 use mathlib.Core.Path.{_≡_}
 use mathlib.Core.List.{List}
 use lib.ListN.{length}
@@ -18,8 +18,8 @@ abbrev pub ReadsRow : ℕ → ℕ → List ℕ → Reading → Type 0
 ReadsRow v k line (Is r) = (length line ≤ lineLimit) × Row v k r line
 ReadsRow v k line Not = (r : Record) → length line ≤ lineLimit → Row v k r line → ⊥
 
--- Reading the line at the front of a window as row k of a version gives e: 0 if it is no row, else one more than the place of its CR, and then
+-- Reading the line at this place of a window as row k of a version gives e: 0 if it is no row, else one more than the place of its CR, and then
 -- the record's fields stand in `out`.
-pub data RowFound (v k : ℕ) (line out : List ℕ) (e : ℕ) : Type 0 where
-  row-found : {r : Record} → Row v k r line → out ≡ fieldsOf r → e ≡ suc (length line) → RowFound v k line out e
-  no-row : e ≡ 0 → ((r : Record) → Row v k r line → ⊥) → RowFound v k line out e
+pub data RowFound (v k at : ℕ) (line out : List ℕ) (e : ℕ) : Type 0 where
+  row-found : {r : Record} → Row v k r line → out ≡ fieldsOf r → e ≡ suc (at + length line) → RowFound v k at line out e
+  no-row : e ≡ 0 → ((r : Record) → Row v k r line → ⊥) → RowFound v k at line out e

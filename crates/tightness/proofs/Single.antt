@@ -93,7 +93,7 @@ last-stamp-wrapped p e = let t = p .time in omega (arith, t .high, t .hour, t .m
 pub hour-of-twelve : {s : DateTime} → Stamp 46800000 0 s → s .time .hour ≡ 13 % 12 → ⊥
 hour-of-twelve p e = let t = p .time in omega (arith, t .low, t .high, t .minute, t .second, t .part)
 
--- fields, and the fields of judged rows
+-- fields
 
 -- `Warnng` and `rx` are no marks, and `Tx` is not `Rx`
 pub mark-warnng : {v : ℕ} → MarkField v (87 ∷ 97 ∷ 114 ∷ 110 ∷ 110 ∷ 103 ∷ []) → ⊥

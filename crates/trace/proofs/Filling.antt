@@ -18,7 +18,8 @@ use Rattle.row.proofs.Plain.{row-starts, row-some}
 use Rattle.lines.specs.Lines.{FirstLine, Comment}
 use Rattle.trace.specs.Trace.{Trace, Line, Body, over, comment, row, Spells}
 use Rattle.trace.specs.Promise.{packed, stepBack}
-use Rattle.trace.specs.Passes.{There, Rowed, Bars, Headed, Fits, BackAfter, Filled}
+use Rattle.trace.specs.Passes.{There, Bars, Headed, Fits, BackAfter, Filled}
+use Rattle.trace.proofs.Rows.{Rowed}
 use Rattle.trace.specs.Passes
 use Rattle.trace.proofs.Cuts.{withRecords, spells-cut}
 use Rattle.lines.proofs.Theorems.{first-one, not-both}

@@ -23,14 +23,23 @@ pub record There (text : List ℕ) (at next : ℕ) (line : List ℕ) : Type 0 wh
   pub later : at < next
   pub within : next ≤ length text
 
--- The window holds the next n bytes of the text, and CR behind them. They are all that is left, or 252: a line within the limit, with its
--- end, is among them.
-pub record Windowed (text : List ℕ) (at : ℕ) (w : List ℕ) (n : ℕ) : Type 0 where
+-- The most bytes of the text in a window: one less than it has, since CR stands behind them.
+abbrev pub mostHeld : ℕ
+mostHeld = 4095
+
+-- The window holds the bytes of the text from a place on, and CR behind them. They are all that is left, or as many as there is room for.
+pub record Windowed (text : List ℕ) (from : ℕ) (w : List ℕ) : Type 0 where
+  pub held : ℕ
   pub behind : List ℕ
-  pub bytes : w ≡ take n (drop at text) ++ (13 ∷ behind)
-  pub within : at + n ≤ length text
-  pub few : n ≤ lineLimit + 2
-  pub most : n < lineLimit + 2 → at + n ≡ length text
+  pub bytes : w ≡ take held (drop from text) ++ (13 ∷ behind)
+  pub within : from + held ≤ length text
+  pub most : held < mostHeld → from + held ≡ length text
+
+-- The window that starts at `from` reaches far enough behind `at`: a line within the limit, with its end, is in it, if the text has one there.
+pub record Reaches (text : List ℕ) (at from : ℕ) (w : List ℕ) : Type 0 where
+  pub holds : Windowed text from w
+  pub starts : from ≤ at
+  pub room : at + (lineLimit + 2) ≤ from + mostHeld
 
 -- No line at `at` is row k.
 abbrev pub NoRow : List ℕ → ℕ → ℕ → ℕ → Type 0
@@ -41,14 +50,6 @@ pub data RowAt (text : List ℕ) (at version k : ℕ) (fields : List ℕ) (next 
   here : {r : Record} {line : List ℕ} → There text at next line → Row version k r line → fields ≡ fieldsOf r
       → RowAt text at version k fields next
   nowhere : next ≡ 0 → NoRow text at version k → RowAt text at version k fields next
-
--- Row k stands at `at`.
-pub record Rowed (text : List ℕ) (at version k : ℕ) : Type 0 where
-  pub r : Record
-  pub line : List ℕ
-  pub after : List ℕ
-  pub is : Line line after (drop at text)
-  pub row : Row version k r line
 
 -- Where no row stands from line 3 on: what is left is refused with this number.
 pub data Bars (rest : List ℕ) : ℕ → Type 0 where

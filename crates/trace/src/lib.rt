@@ -1,20 +1,18 @@
 // A whole trace: read from text into packed records, in two passes. The first judges every line and counts, the second fills.
+use fields::WINDOW;
 use lines::Ending;
 use lines::Remark;
 use lines::StartTime;
 use record::of_fields;
 use record::put_record;
+use row_reader::no_window;
 use row_reader::row_in;
 use row_reader::window;
-use taker::taken_in;
-ghost use mathlib.Core.Path.{_≡_};
-ghost use mathlib.Core.List.{List, _++_};
-ghost use Prim.Native.Nat.{ℕ, _*_, _≤_, _<_};
-ghost use lib.ListN.{length, drop};
-ghost use Rattle.record.specs.declared.Record.{Record as AnyRecord};
-ghost use Rattle.trace.specs.Trace.{sizeLimit, Spells};
-ghost use Rattle.trace.specs.Promise.{packed, readNumbers, ReadPromise};
-ghost use Rattle.trace.specs.Passes.{Windowed, Rowed, RowAt, Says, Versioned, Headed, Heads, Judges, Fits, BackAfter, Filled};
+ghost use Prim.Native.Nat.{_≤_};
+ghost use lib.ListN.{length};
+ghost use Rattle.trace.specs.Trace.{sizeLimit};
+ghost use Rattle.trace.specs.Promise.{readNumbers, ReadPromise};
+ghost use Rattle.trace.specs.Passes.{Windowed, Reaches, RowAt, Says, Versioned, Headed, Heads, Judges, Fits, BackAfter, Filled};
 
 // The answer of `read`.
 pub enum Outcome {
@@ -120,54 +118,60 @@ fn second(text: &[u8], at: usize, version: u64) -> Heading
     }
 }
 
-// Puts the next bytes of the text into the window, and gives their number: as many as a line within the limit and its end have, if there are.
-fn window_at(text: &[u8], at: usize, w: &mut [u8; 256]) -> usize
-    requires { ⌜ at ≤ length (now text) ⌝ }
-    ensures { λ n. ⌜ Windowed (now (text .entry)) at (now (w .exit)) n ⌝ }
+// Fills the window from a place of the text on: with what is left, or as much as there is room for, and CR behind it.
+fn fill_window(text: &[u8], from: usize, w: &mut [u8; WINDOW])
+    requires { ⌜ from ≤ length (now text) ⌝ }
+    ensures { λ _. ⌜ Windowed (now (text .entry)) from (now (w .exit)) ⌝ }
 {
-    let left = text.len() - at;
-    if left < 252 {
-        window(&text[at..], w);
-        return left;
+    if text.len() - from < WINDOW {
+        window(&text[from..], w);
+        return;
     }
-    window(&text[at..at + 252], w);
-    252
+    window(&text[from..from + (WINDOW - 1)], w);
 }
 
-// Reads row k of a version at a place: the place of the next line, and the record's fields in `fields`; or 0. The line's end is not
-// searched first: a row holds no CR and no LF, so that it ends where its reading ends.
+// Where the window starts that a row at a place is read from. Where fewer bytes are left in it than a line within the limit and its end have, it
+// is filled anew: so most rows are read where they are, and none is copied alone.
+fn window_at(text: &[u8], at: usize, from: usize, w: &mut [u8; WINDOW]) -> usize
+    requires { ⌜ Windowed (now text) from (now w) × (from ≤ at) × (at ≤ length (now text)) ⌝ }
+    ensures { λ b. ⌜ Reaches (now (text .entry)) at b (now (w .exit)) ⌝ }
+{
+    if at - from <= WINDOW - 1 - 252 {
+        return from;
+    }
+    fill_window(text, at, w);
+    at
+}
+
+// Reads row k of a version at a place, in the window that starts at `from`: the place of the next line, and the record's fields in `fields`; or
+// 0. The line's end is not searched first: a row holds no CR and no LF, so that it ends where its reading ends.
 fn row_at(
     text: &[u8],
     at: usize,
     version: u64,
     k: u64,
-    w: &mut [u8; 256],
+    from: usize,
+    w: &[u8; WINDOW],
     fields: &mut [u64; 7],
 ) -> usize
-    requires { ⌜ at ≤ length (now text) ⌝ }
+    requires { ⌜ Reaches (now text) at from (now w) × (at ≤ length (now text)) ⌝ }
     ensures { λ n. ⌜ RowAt (now (text .entry)) at version k (now (fields .exit)) n ⌝ }
 {
-    let n = window_at(text, at, w);
-    let e = row_in(w, version, k, fields);
+    let e = row_in(w, at - from, version, k, fields);
     if e == 0 {
         return 0;
     }
-    if n <= e {
+    let feed = from + e;
+    if at + 251 < feed {
         return 0;
     }
-    if text[at + e] != 10 {
+    if text.len() <= feed {
         return 0;
     }
-    at + e + 1
-}
-
-// Takes the fields of a row of a version, which was judged, from its place, and gives the place of the next line.
-fn taken_at(text: &[u8], at: usize, version: u64, fields: &mut [u64; 7]) -> usize
-    requires { ⌜ ((k : ℕ) × Rowed (now text) at version k) ⌝ }
-    ensures { λ n. ⌜ ((k : ℕ) → Rowed (now (text .entry)) at version k → RowAt (now (text .entry)) at version k (now (fields .exit)) n × (0 < n)) ⌝ }
-{
-    let e = taken_in(text, at, version, fields);
-    e + 1
+    if text[feed] != 10 {
+        return 0;
+    }
+    feed + 1
 }
 
 // What the line at a place is, if it is no row.
@@ -203,8 +207,7 @@ fn back_after(back: u64, row: u64, before: u64, offset: u64) -> u64
     0
 }
 
-// The first pass, from line 3 on: every line is judged, and the rows are counted. No field of a row is used here, so that the compiler leaves
-// out what would only serve their values.
+// The first pass, from line 3 on: every line is judged, and the rows are counted.
 fn judge(text: &[u8], from: usize, version: u64, start: u64) -> Judged
     requires { ⌜ Headed (now text) from version start × (length (now text) ≤ sizeLimit) ⌝ }
     ensures { λ j. ⌜ Judges (now (text .entry)) version start j ⌝ }
@@ -212,11 +215,14 @@ fn judge(text: &[u8], from: usize, version: u64, start: u64) -> Judged
     let mut at = from;
     let mut place: u64 = 2;
     let mut rows: u64 = 0;
-    let mut w = [0u8; 256];
+    let mut w = no_window();
+    let mut base = from;
     let mut fields = [0u64; 7];
+    fill_window(text, from, &mut w);
     while at < text.len() {
         place += 1;
-        let next = row_at(text, at, version, rows + 1, &mut w, &mut fields);
+        base = window_at(text, at, base, &mut w);
+        let next = row_at(text, at, version, rows + 1, base, &w, &mut fields);
         if next == 0 {
             let l = other_at(text, at);
             match l {
@@ -246,7 +252,10 @@ fn fill(text: &[u8], from: usize, version: u64, start: u64, out: &mut [u8]) -> u
     let mut o = 0;
     let mut last: u64 = 0;
     let mut back: u64 = 0;
+    let mut w = no_window();
+    let mut base = from;
     let mut fields = [0u64; 7];
+    fill_window(text, from, &mut w);
     while at < text.len() {
         if text[at] == 59 {
             let l = other_at(text, at);
@@ -259,9 +268,13 @@ fn fill(text: &[u8], from: usize, version: u64, start: u64, out: &mut [u8]) -> u
                 }
             }
         } else {
-            let next = taken_at(text, at, version, &mut fields);
-            put_record(out, o, of_fields(&fields));
+            base = window_at(text, at, base, &mut w);
             done += 1;
+            let next = row_at(text, at, version, done, base, &w, &mut fields);
+            if next == 0 {
+                return 0;
+            }
+            put_record(out, o, of_fields(&fields));
             back = back_after(back, done, last, fields[0]);
             last = fields[0];
             o += 20;

@@ -11,7 +11,8 @@ read-row-spec =
     (tie.spec
     (λ c r h w. omega arith)
     (λ c κs. search needs)
-    (λ c κs. rw (c .before .before .window .ensures) (let x = framed (c .before .before .before .before .before .before .args .line .now) _ in record { line = x .line; is = x .is }))
+    (λ c κs. search needs)
+    (λ c κs. rw (c .before .before .window .ensures) (let x = framed (c .before .before .before .before .before .before .before .args .line .now) _ in record { line = x .line; is = x .is }))
     (λ c. search needs)
     (λ c r h w. not-read _ (λ line l. c .before .row-in .ensures line (rw (c .before .before .before .before .window .ensures) l)) (c .if2 .taken) r w)
     (λ c κs. search needs)

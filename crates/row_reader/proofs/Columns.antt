@@ -1,0 +1,304 @@
+-- A law for each column of the chain: `X-on`, the field is there and the slots are put; `X-off`, it is not; `X-barred`, no row goes on with its
+-- value.
+use Prim.Native.Nat.{ℕ, _+_, _*_, _-_, _/_, _^_, _≤_, _<_}
+use mathlib.Core.Path.{_≡_, refl, sym}
+use mathlib.Core.Logic.{_≢_}
+use mathlib.Core.List.{List, [], _∷_}
+use native.Mathlib.Omega.{arith}
+use native.Mathlib.Nat.{zero-add}
+use lib.ListN.{getD}
+use Rattle.digits.specs.Digits.{Hex}
+use Rattle.fields.specs.declared.Scan.{Scan}
+use Rattle.fields.specs.Columns.{NumberField, OffsetField, BusField, LengthField, Capital, remoteText}
+use Rattle.fields.specs.Runs.{All}
+use Rattle.fields.specs.Window.{Starts, Takes, taken, not, HexField, MarkField}
+use Rattle.record.specs.declared.Record.{Record}
+use Rattle.record.specs.Record.{ErrorId, Position}
+use Rattle.row.specs.declared.Stage.the-variants as stage
+use Rattle.row.specs.Row
+use Rattle.row.specs.Stages.{Steps, Continues, one-byte, no-byte}
+use Rattle.row.proofs.Columns.{
+  behind,
+  after-number,
+  after-one,
+  after-three,
+  after-bus,
+  after-id,
+  after-length,
+  some-mark,
+  some-id,
+  number11-went,
+  number12-went,
+  offset11-went,
+  offset12-went,
+  bus-went,
+  mark-frame,
+  mark-warning,
+  mark-error,
+  Form,
+  four,
+  eight,
+  id-barred,
+  id-went,
+  length-went,
+}
+use Rattle.row.proofs.Data.{
+  bytes-went,
+  bytes-barred,
+  warning-bytes-went,
+  word-refused,
+  word-went,
+  remote-went,
+  data-barred,
+  data-went,
+}
+use Rattle.row.proofs.Moves.{Got, got, refused, barred}
+use Rattle.row.proofs.Warnings.{
+  some-warning-id,
+  some-error-id,
+  after-warning-length,
+  after-error-length,
+  after-first,
+  after-second,
+  warning-id-barred,
+  warning-id-went,
+  warning-length-barred,
+  warning-length-went,
+  error-id-barred,
+  error-id-went,
+  error-length-barred,
+  error-length-went,
+  error-first-barred,
+  error-first-went,
+  error-second-barred,
+  error-second-went,
+}
+use Rattle.row_reader.specs.Chain.{seen, known, Ready, GoesRow, Leads, Puts, PutsRemote, PutsWarning, FormOf, standard, long, neither}
+use Rattle.row_reader.specs.Chain.{none as none-found}
+
+-- The row number.
+module _ {w : List ℕ} {at k : ℕ} {s : Scan} (t : Takes (λ v f. NumberField k f) w at s) where
+  pub number-off : {version : ℕ} (out : List ℕ) → s .end ≡ 0 → Steps w at (λ fs r. Row.RowFields version k r fs) (behind 0 stage.Mark 0 0 (seen out 0))
+  number-off out z = refused _ t z refl (λ f fs r h. (0, after-number h .0))
+
+  pub number-11 : (out : List ℕ) → s .end ≢ 0 → Steps w at (λ fs r. Row.RowFields 11 k r fs) (behind (s .end) stage.Offset11 0 0 (seen out 0))
+  number-11 out n = number11-went (known stage.Number11 k 0 0 out) refl (got t n)
+
+  pub number-12 : (out : List ℕ) → s .end ≢ 0 → Steps w at (λ fs r. Row.RowFields 12 k r fs) (behind (s .end) stage.Offset12 0 0 (seen out 0))
+  number-12 out n = number12-went (known stage.Number12 k 0 0 out) refl (got t n)
+
+versions : {v k : ℕ} {r : Record} {fs : List (List ℕ)} → Row.RowFields v k r fs → (v ≡ 11 → ⊥) → (v ≡ 12 → ⊥) → ⊥
+versions (Row.number n (Row.one o b m)) p q = p refl
+versions (Row.number n (Row.three o b)) p q = q refl
+
+-- No row is of another version.
+pub no-version : {v k : ℕ} (w : List ℕ) (at : ℕ) {out : List ℕ} → (v ≡ 11 → ⊥) → (v ≡ 12 → ⊥) → GoesRow v k w at out 0
+no-version w at p q line l = none-found refl (λ fs r ps c. versions c p q)
+
+-- Where no byte is left.
+pub byte-off : {w : List ℕ} {at left place word : ℕ} {out : List ℕ} → Ready stage.Bytes left place word out → left ≡ 0
+    → Steps w at (Continues (known stage.Bytes left place word out)) (behind 0 stage.Bytes 0 0 (seen out 0))
+byte-off {left = left} {place = place} {word = word} {out = out} g n = bytes-barred (known stage.Bytes left place word out) _ n refl
+
+module _ {w : List ℕ} {at : ℕ} {s : Scan} {out : List ℕ} where
+  -- The offset in version 1.1.
+  module _ (g : Ready stage.Offset11 0 0 0 out) (t : Takes (OffsetField 1) w at s) where
+    pub offset11-off : s .end ≡ 0 → Steps w at (Continues (known stage.Offset11 0 0 0 out)) (behind 0 stage.Mark 0 0 (seen out 0))
+    offset11-off z = refused _ t z refl (λ f fs r h. (r .offset, after-one h .0))
+
+    pub offset11-on : {mid new : List ℕ} → s .end ≢ 0 → Puts 0 (s .value) out mid → Puts 1 0 mid new
+        → Steps w at (Continues (known stage.Offset11 0 0 0 out)) (behind (s .end) stage.Mark 0 0 (seen new 0))
+    offset11-on {mid} {new} n u v =
+        let x = u .slots in
+        let y = v .slots in
+        offset11-went (known stage.Offset11 0 0 0 out) (seen new 0) (cc (x, y)) (cc (x, y)) refl (got t n)
+
+  -- The offset in version 1.2.
+  module _ (g : Ready stage.Offset12 0 0 0 out) (t : Takes (OffsetField 3) w at s) where
+    pub offset12-off : s .end ≡ 0 → Steps w at (Continues (known stage.Offset12 0 0 0 out)) (behind 0 stage.Bus 0 0 (seen out 0))
+    offset12-off z = refused _ t z refl (λ f fs r h. (r .offset, after-three h .0))
+
+    pub offset12-on : {new : List ℕ} → s .end ≢ 0 → Puts 0 (s .value) out new
+        → Steps w at (Continues (known stage.Offset12 0 0 0 out)) (behind (s .end) stage.Bus 0 0 (seen new 0))
+    offset12-on {new} n u = let x = u .slots in offset12-went (known stage.Offset12 0 0 0 out) (seen new 0) (cc (x)) refl (got t n)
+
+  -- The bus.
+  module _ (g : Ready stage.Bus 0 0 0 out) (t : Takes BusField w at s) where
+    pub bus-off : s .end ≡ 0 → Steps w at (Continues (known stage.Bus 0 0 0 out)) (behind 0 stage.Mark 0 0 (seen out 0))
+    bus-off z = refused _ t z refl (λ f fs r h. (r .bus, after-bus (h .1) .0))
+
+    pub bus-on : {new : List ℕ} → s .end ≢ 0 → Puts 1 (s .value) out new
+        → Steps w at (Continues (known stage.Bus 0 0 0 out)) (behind (s .end) stage.Mark 0 0 (seen new 0))
+    bus-on {new} n u = let x = u .slots in bus-went (known stage.Bus 0 0 0 out) (seen new 0) (cc (x)) (cc (x)) refl (got t n)
+
+  -- `Rx`, `Tx`, `Warng` or `Error`.
+  module _ (g : Ready stage.Mark 0 0 0 out) (t : Takes MarkField w at s) where
+    pub mark-off : s .end ≡ 0 → Steps w at (Continues (known stage.Mark 0 0 0 out)) (behind 0 stage.Id 0 0 (seen out 0))
+    mark-off z = refused _ t z refl (λ f fs r h. some-mark (h .1))
+
+    pub frame-on : {new : List ℕ} → s .end ≢ 0 → s .value ≤ 1 → Puts 2 (s .value) out new
+        → Steps w at (Continues (known stage.Mark 0 0 0 out)) (behind (s .end) stage.Id 0 0 (seen new 0))
+    frame-on {new} n l u =
+        let x = u .slots in
+        mark-frame (known stage.Mark 0 0 0 out) (got t n) (seen new 0) l (cc (x)) (cc (x)) refl
+
+    pub warning-on : s .end ≢ 0 → s .value ≡ 2 → Steps w at (Continues (known stage.Mark 0 0 0 out)) (behind (s .end) stage.WarningId 0 0 (seen out 0))
+    warning-on n e = mark-warning (known stage.Mark 0 0 0 out) (got t n) e refl
+
+    pub error-on : s .end ≢ 0 → 2 < s .value → Steps w at (Continues (known stage.Mark 0 0 0 out)) (behind (s .end) stage.ErrorId 0 0 (seen out 0))
+    error-on n l = mark-error (known stage.Mark 0 0 0 out) (got t n) l refl
+
+  -- The ID of a frame.
+  module _ (g : Ready stage.Id 0 0 0 out) (t : Takes HexField w at s) where
+    pub id-off : s .end ≡ 0 → Steps w at (Continues (known stage.Id 0 0 0 out)) (behind 0 stage.Length 0 0 (seen out 0))
+    id-off z = refused _ t z refl (λ f fs r h. some-id (after-id (h .1) .0))
+
+    pub id-none : {x : ℕ} → s .end ≢ 0 → FormOf (s .value) (s .end - at) x → 1 < x
+        → Steps w at (Continues (known stage.Id 0 0 0 out)) (behind 0 stage.Length 0 0 (seen out 0))
+    id-none n (standard a b e) l = absurd (omega arith)
+    id-none n (long a b e) l = absurd (omega arith)
+    id-none n (neither a b e) l = id-barred (known stage.Id 0 0 0 out) (got t n) _ refl a b
+
+    formed : {x : ℕ} → FormOf (s .value) (s .end - at) x → x ≤ 1 → Form (s .value) (s .end - at) x
+    formed (standard a b e) l = four a e b
+    formed (long a b e) l = eight a e b
+    formed (neither a b e) l = absurd (omega arith)
+
+    pub id-on : {x : ℕ} {mid new : List ℕ} → s .end ≢ 0 → FormOf (s .value) (s .end - at) x → x ≤ 1 → Puts 3 x out mid → Puts 4 (s .value) mid new
+        → Steps w at (Continues (known stage.Id 0 0 0 out)) (behind (s .end) stage.Length 0 0 (seen new 0))
+    id-on {x} {mid} {new} n f l u v =
+        let y = u .slots in
+        let z = v .slots in
+        let h : x ≡ getD new 3 0 = cc (y, z) in
+        id-went (known stage.Id 0 0 0 out) (got t n) (seen new 0) (g .good .0) (cc (y, z)) (cc (y, z)) (cc (y, z)) refl (rw h at (formed f l))
+
+  -- The length of a frame.
+  module _ (g : Ready stage.Length 0 0 0 out) (t : Takes LengthField w at s) where
+    pub length-off : s .end ≡ 0 → Steps w at (Continues (known stage.Length 0 0 0 out)) (behind 0 stage.Data 0 0 (seen out 0))
+    length-off z = refused _ t z refl (λ f fs r h. (r .len, after-length (h .1) .0))
+
+    pub length-on : {new : List ℕ} → s .end ≢ 0 → Puts 5 (s .value) out new
+        → Steps w at (Continues (known stage.Length 0 0 0 out)) (behind (s .end) stage.Data (s .value) (256 ^ 7) (seen new 0))
+    length-on {new} n u =
+        let x = u .slots in
+        length-went (known stage.Length 0 0 0 out) (seen new 0) (g .good .0) (cc (x)) (cc (x)) (cc (x)) refl (got t n)
+
+  -- The data of a frame: `RTR`, or the first byte.
+  module _ {left : ℕ} (g : Ready stage.Data left (256 ^ 7) 0 out) (t : Takes (λ v f. f ≡ remoteText) w at s) where
+    pub remote-on : {new : List ℕ} → s .end ≢ 0 → PutsRemote out new
+        → Steps w at (Continues (known stage.Data left (256 ^ 7) 0 out)) (behind (s .end) stage.Bytes 0 0 (seen new 0))
+    remote-on {new} n u =
+        let x = u .slots in
+        remote-went (known stage.Data left (256 ^ 7) 0 out) (g .good) (seen new 0) (cc (x)) (cc (x)) refl (got t n)
+
+    pub data-none : s .end ≡ 0 → left ≡ 0 → Steps w at (Continues (known stage.Data left (256 ^ 7) 0 out)) (behind 0 stage.Bytes 0 0 (seen out 0))
+    data-none z n = data-barred (known stage.Data left (256 ^ 7) 0 out) (g .good) _ t z n refl
+
+    pub data-on : {b : Scan} → s .end ≡ 0 → left ≢ 0 → Takes (Hex 2) w at b
+        → Steps w at (Continues (known stage.Data left (256 ^ 7) 0 out)) (behind (b .end) stage.Bytes (left - 1) (256 ^ 6) (seen out (b .value * 256 ^ 7)))
+    data-on z n (taken a e h) = data-went (known stage.Data left (256 ^ 7) 0 out) (g .good) _ t z n (one-byte a e h (rw zero-add refl))
+    data-on z n (not e f) = data-went (known stage.Data left (256 ^ 7) 0 out) (g .good) _ t z n (no-byte e f)
+
+  -- A data byte, if one is left.
+  module _ {left place word : ℕ} (g : Ready stage.Bytes left place word out) where
+    pub byte-on : left ≢ 0 → Takes (Hex 2) w at s
+        → Steps w at (Continues (known stage.Bytes left place word out)) (behind (s .end) stage.Bytes (left - 1) (place / 256) (seen out (word + s .value * place)))
+    byte-on n (taken a e h) = bytes-went (known stage.Bytes left place word out) _ n (g .good) (one-byte a e h refl)
+    byte-on n (not e f) = bytes-went (known stage.Bytes left place word out) _ n (g .good) (no-byte e f)
+
+  -- The eight F of a warning.
+  module _ (g : Ready stage.WarningId 0 0 0 out) (t : Takes HexField w at s) where
+    pub warning-id-off : s .end ≡ 0 → Steps w at (Continues (known stage.WarningId 0 0 0 out)) (behind 0 stage.WarningLength 0 0 (seen out 0))
+    warning-id-off z = refused _ t z refl (some-warning-id (known stage.WarningId 0 0 0 out))
+
+    pub warning-id-none : s .end ≢ 0 → (s .end - at ≡ 8 → s .value ≡ 0xFFFFFFFF → ⊥)
+        → Steps w at (Continues (known stage.WarningId 0 0 0 out)) (behind 0 stage.WarningLength 0 0 (seen out 0))
+    warning-id-none n f = warning-id-barred (known stage.WarningId 0 0 0 out) _ refl f (got t n)
+
+    pub warning-id-on : {new : List ℕ} → s .end ≢ 0 → s .end - at ≡ 8 → s .value ≡ 0xFFFFFFFF → PutsWarning out new
+        → Steps w at (Continues (known stage.WarningId 0 0 0 out)) (behind (s .end) stage.WarningLength 0 0 (seen new 0))
+    warning-id-on {new} n e v u =
+        let x = u .slots in
+        warning-id-went (known stage.WarningId 0 0 0 out) (seen new 0) (cc (x)) (cc (x)) (record { extended = cc (x); id = cc (x); len = cc (x) }) refl e v (got t n)
+
+  -- The length of a warning.
+  module _ (g : Ready stage.WarningLength 0 0 0 out) (t : Takes LengthField w at s) where
+    pub warning-length-off : s .end ≡ 0 → Steps w at (Continues (known stage.WarningLength 0 0 0 out)) (behind 0 stage.WarningBytes 0 0 (seen out 0))
+    warning-length-off z = refused _ t z refl (λ f fs r h. (4, after-warning-length (h .1) .0))
+
+    pub warning-length-none : s .end ≢ 0 → s .value ≢ 4 → Steps w at (Continues (known stage.WarningLength 0 0 0 out)) (behind 0 stage.WarningBytes 0 0 (seen out 0))
+    warning-length-none n f = warning-length-barred (known stage.WarningLength 0 0 0 out) _ refl f (got t n)
+
+    pub warning-length-on : s .end ≢ 0 → s .value ≡ 4
+        → Steps w at (Continues (known stage.WarningLength 0 0 0 out)) (behind (s .end) stage.WarningBytes 4 (256 ^ 7) (seen out 0))
+    warning-length-on n e = warning-length-went (known stage.WarningLength 0 0 0 out) refl e (got t n)
+
+  -- A data byte of a warning, and behind the last any word.
+  module _ {left place word : ℕ} (g : Ready stage.WarningBytes left place word out) where
+    pub word-off : left ≡ 0 → Takes (λ v f. All Capital f) w at s → s .end ≡ 0
+        → Steps w at (Continues (known stage.WarningBytes left place word out)) (behind 0 stage.WarningBytes 0 0 (seen out 0))
+    word-off n t z = word-refused (known stage.WarningBytes left place word out) n _ t z refl
+
+    pub word-on : left ≡ 0 → Takes (λ v f. All Capital f) w at s → s .end ≢ 0
+        → Steps w at (Continues (known stage.WarningBytes left place word out)) (behind (s .end) stage.WarningBytes 0 place (seen out word))
+    word-on n t z = word-went (known stage.WarningBytes left place word out) n (g .good) (got t z)
+
+    pub warning-byte-on : left ≢ 0 → Takes (Hex 2) w at s
+        → Steps w at (Continues (known stage.WarningBytes left place word out)) (behind (s .end) stage.WarningBytes (left - 1) (place / 256) (seen out (word + s .value * place)))
+    warning-byte-on n (taken a e h) = warning-bytes-went (known stage.WarningBytes left place word out) _ n (g .good) (one-byte a e h refl)
+    warning-byte-on n (not e f) = warning-bytes-went (known stage.WarningBytes left place word out) _ n (g .good) (no-byte e f)
+
+  -- The ID of an error frame.
+  module _ (g : Ready stage.ErrorId 0 0 0 out) (t : Takes HexField w at s) where
+    pub error-id-off : s .end ≡ 0 → Steps w at (Continues (known stage.ErrorId 0 0 0 out)) (behind 0 stage.ErrorLength 0 0 (seen out 0))
+    error-id-off z = refused _ t z refl (some-error-id (known stage.ErrorId 0 0 0 out))
+
+    pub error-id-none : s .end ≢ 0 → (s .end - at ≡ 4 → ErrorId (s .value) → ⊥)
+        → Steps w at (Continues (known stage.ErrorId 0 0 0 out)) (behind 0 stage.ErrorLength 0 0 (seen out 0))
+    error-id-none n f = error-id-barred (known stage.ErrorId 0 0 0 out) _ refl f (got t n)
+
+    pub error-id-on : {mid new : List ℕ} → s .end ≢ 0 → s .end - at ≡ 4 → ErrorId (s .value) → Puts 3 0 out mid → Puts 4 (s .value) mid new
+        → Steps w at (Continues (known stage.ErrorId 0 0 0 out)) (behind (s .end) stage.ErrorLength 0 0 (seen new 0))
+    error-id-on {mid} {new} n e v a b =
+        let x = a .slots in
+        let y = b .slots in
+        error-id-went (known stage.ErrorId 0 0 0 out) (seen new 0) (cc (x, y)) (cc (x, y)) (cc (x, y)) refl e v (got t n)
+
+  -- The length of an error frame.
+  module _ (g : Ready stage.ErrorLength 0 0 0 out) (t : Takes LengthField w at s) where
+    pub error-length-off : s .end ≡ 0 → Steps w at (Continues (known stage.ErrorLength 0 0 0 out)) (behind 0 stage.ErrorFirst 0 0 (seen out 0))
+    error-length-off z = refused _ t z refl (λ f fs r h. (4, after-error-length (h .2) .1))
+
+    pub error-length-none : s .end ≢ 0 → s .value ≢ 4 → Steps w at (Continues (known stage.ErrorLength 0 0 0 out)) (behind 0 stage.ErrorFirst 0 0 (seen out 0))
+    error-length-none n f = error-length-barred (known stage.ErrorLength 0 0 0 out) _ refl f (got t n)
+
+    pub error-length-on : {mid new : List ℕ} → s .end ≢ 0 → s .value ≡ 4 → Puts 2 5 out mid → Puts 5 4 mid new
+        → Steps w at (Continues (known stage.ErrorLength 0 0 0 out)) (behind (s .end) stage.ErrorFirst 0 0 (seen new 0))
+    error-length-on {mid} {new} n e a b =
+        let x = a .slots in
+        let y = b .slots in
+        error-length-went (known stage.ErrorLength 0 0 0 out) (seen new 0) (cc (x, y)) (cc (x, y)) (cc (x, y)) refl e (got t n)
+
+  -- The first byte of an error frame.
+  module _ (g : Ready stage.ErrorFirst 0 0 0 out) (t : Takes (Hex 2) w at s) where
+    pub first-off : s .end ≡ 0 → Steps w at (Continues (known stage.ErrorFirst 0 0 0 out)) (behind 0 stage.ErrorSecond 0 0 (seen out 0))
+    first-off z = refused _ t z refl (λ f fs r h. let a = after-first (h .1) in (a .0, a .2))
+
+    pub first-none : s .end ≢ 0 → 1 < s .value → Steps w at (Continues (known stage.ErrorFirst 0 0 0 out)) (behind 0 stage.ErrorSecond 0 0 (seen out 0))
+    first-none n l = error-first-barred (known stage.ErrorFirst 0 0 0 out) _ refl l (got t n)
+
+    pub first-on : s .end ≢ 0 → s .value ≤ 1
+        → Steps w at (Continues (known stage.ErrorFirst 0 0 0 out)) (behind (s .end) stage.ErrorSecond 0 0 (seen out (s .value * 256 ^ 7)))
+    first-on n l = error-first-went (known stage.ErrorFirst 0 0 0 out) (seen out (s .value * 256 ^ 7)) refl refl l (got t n)
+
+  -- The second byte of an error frame: a position.
+  module _ {word : ℕ} (g : Ready stage.ErrorSecond 0 0 word out) (t : Takes (Hex 2) w at s) where
+    pub second-off : s .end ≡ 0 → Steps w at (Continues (known stage.ErrorSecond 0 0 word out)) (behind 0 stage.Bytes 0 0 (seen out 0))
+    second-off z = refused _ t z refl (λ f fs r h. let a = after-second (h .bytes) in (a .0, a .2))
+
+    pub second-none : s .end ≢ 0 → (Position (s .value) → ⊥) → Steps w at (Continues (known stage.ErrorSecond 0 0 word out)) (behind 0 stage.Bytes 0 0 (seen out 0))
+    second-none n f = error-second-barred (known stage.ErrorSecond 0 0 word out) _ refl f (got t n)
+
+    pub second-on : s .end ≢ 0 → Position (s .value)
+        → Steps w at (Continues (known stage.ErrorSecond 0 0 word out)) (behind (s .end) stage.Bytes 2 (256 ^ 5) (seen out (word + s .value * 256 ^ 6)))
+    second-on n p = error-second-went (known stage.ErrorSecond 0 0 word out) (seen out (word + s .value * 256 ^ 6)) refl refl (g .good) p (got t n)

@@ -1,0 +1,130 @@
+// An error frame, from its ID on: the ID, length 4, 0 or 1, a position, then two error counters.
+use crate::frame::SECOND_PLACE;
+use crate::frame::gap_byte;
+use crate::gaps::at_end;
+use crate::gaps::skip_in;
+use crate::slots::put;
+use fields::WINDOW;
+use row::FIRST_PLACE;
+ghost use lib.ListN.{drop};
+ghost use Rattle.fields.specs.Window.{Lined, Starts};
+ghost use Rattle.row.specs.declared.Stage.the-variants as stage;
+ghost use Rattle.row_reader.specs.Chain.{Ready, known, Goes};
+
+// The place value of the third of eight data bytes: 256 ^ 5.
+const THIRD_PLACE: u64 = 1099511627776;
+
+// The ID.
+pub fn gap_error_id(w: &[u8; WINDOW], at: usize, out: &mut [u64; 7]) -> usize
+    requires { ⌜ Lined (drop at (now w)) × Ready stage.ErrorId 0 0 0 (now out) ⌝ }
+    ensures { λ e. ⌜ Goes (known stage.ErrorId 0 0 0 (now (out .entry))) (now (w .entry)) at (now (out .exit)) e ⌝ }
+{
+    let a = skip_in(w, at);
+    if at_end(w, a) {
+        return 0;
+    }
+    field_error_id(w, a, out)
+}
+
+fn field_error_id(w: &[u8; WINDOW], at: usize, out: &mut [u64; 7]) -> usize
+    requires { ⌜ Starts (now w) at × Ready stage.ErrorId 0 0 0 (now out) ⌝ }
+    ensures { λ e. ⌜ Goes (known stage.ErrorId 0 0 0 (now (out .entry))) (now (w .entry)) at (now (out .exit)) e ⌝ }
+{
+    let s = fields::hex_field(w, at);
+    let e = s.end;
+    if e == 0 {
+        return 0;
+    }
+    if e - at != 4 {
+        return 0;
+    }
+    if !record::error_id(s.value) {
+        return 0;
+    }
+    put(out, 3, 0);
+    put(out, 4, s.value);
+    gap_error_length(w, e, out)
+}
+
+// The length.
+pub fn gap_error_length(w: &[u8; WINDOW], at: usize, out: &mut [u64; 7]) -> usize
+    requires { ⌜ Lined (drop at (now w)) × Ready stage.ErrorLength 0 0 0 (now out) ⌝ }
+    ensures { λ e. ⌜ Goes (known stage.ErrorLength 0 0 0 (now (out .entry))) (now (w .entry)) at (now (out .exit)) e ⌝ }
+{
+    let a = skip_in(w, at);
+    if at_end(w, a) {
+        return 0;
+    }
+    field_error_length(w, a, out)
+}
+
+fn field_error_length(w: &[u8; WINDOW], at: usize, out: &mut [u64; 7]) -> usize
+    requires { ⌜ Starts (now w) at × Ready stage.ErrorLength 0 0 0 (now out) ⌝ }
+    ensures { λ e. ⌜ Goes (known stage.ErrorLength 0 0 0 (now (out .entry))) (now (w .entry)) at (now (out .exit)) e ⌝ }
+{
+    let s = fields::length_field(w, at);
+    let e = s.end;
+    if e == 0 {
+        return 0;
+    }
+    if s.value != 4 {
+        return 0;
+    }
+    put(out, 2, 5);
+    put(out, 5, 4);
+    gap_error_first(w, e, out)
+}
+
+// The first byte: 0 or 1.
+pub fn gap_error_first(w: &[u8; WINDOW], at: usize, out: &mut [u64; 7]) -> usize
+    requires { ⌜ Lined (drop at (now w)) × Ready stage.ErrorFirst 0 0 0 (now out) ⌝ }
+    ensures { λ e. ⌜ Goes (known stage.ErrorFirst 0 0 0 (now (out .entry))) (now (w .entry)) at (now (out .exit)) e ⌝ }
+{
+    let a = skip_in(w, at);
+    if at_end(w, a) {
+        return 0;
+    }
+    field_error_first(w, a, out)
+}
+
+fn field_error_first(w: &[u8; WINDOW], at: usize, out: &mut [u64; 7]) -> usize
+    requires { ⌜ Starts (now w) at × Ready stage.ErrorFirst 0 0 0 (now out) ⌝ }
+    ensures { λ e. ⌜ Goes (known stage.ErrorFirst 0 0 0 (now (out .entry))) (now (w .entry)) at (now (out .exit)) e ⌝ }
+{
+    let s = fields::byte_field(w, at);
+    let e = s.end;
+    if e == 0 {
+        return 0;
+    }
+    if 1 < s.value {
+        return 0;
+    }
+    gap_error_second(w, e, s.value * FIRST_PLACE, out)
+}
+
+// The second byte: a position.
+pub fn gap_error_second(w: &[u8; WINDOW], at: usize, data: u64, out: &mut [u64; 7]) -> usize
+    requires { ⌜ Lined (drop at (now w)) × Ready stage.ErrorSecond 0 0 «data» (now out) ⌝ }
+    ensures { λ e. ⌜ Goes (known stage.ErrorSecond 0 0 «data» (now (out .entry))) (now (w .entry)) at (now (out .exit)) e ⌝ }
+{
+    let a = skip_in(w, at);
+    if at_end(w, a) {
+        return 0;
+    }
+    field_error_second(w, a, data, out)
+}
+
+fn field_error_second(w: &[u8; WINDOW], at: usize, data: u64, out: &mut [u64; 7]) -> usize
+    requires { ⌜ Starts (now w) at × Ready stage.ErrorSecond 0 0 «data» (now out) ⌝ }
+    ensures { λ e. ⌜ Goes (known stage.ErrorSecond 0 0 «data» (now (out .entry))) (now (w .entry)) at (now (out .exit)) e ⌝ }
+{
+    let s = fields::byte_field(w, at);
+    let e = s.end;
+    if e == 0 {
+        return 0;
+    }
+    if !record::position(s.value) {
+        return 0;
+    }
+    gap_byte(w, e, 2, THIRD_PLACE, data + s.value * SECOND_PLACE, out)
+}

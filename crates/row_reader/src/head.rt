@@ -1,0 +1,148 @@
+// The columns that every row starts with: row number, offset, bus, and `Rx`, `Tx`, `Warng` or `Error`.
+use crate::error::gap_error_id;
+use crate::frame::gap_id;
+use crate::gaps::at_end;
+use crate::gaps::skip_in;
+use crate::slots::put;
+use crate::warning::gap_warning_id;
+use fields::WINDOW;
+ghost use lib.ListN.{drop};
+ghost use Rattle.fields.specs.Window.{Lined, Starts};
+ghost use Rattle.row.specs.declared.Stage.the-variants as stage;
+ghost use Rattle.row_reader.specs.Chain.{Ready, known, Goes, GoesRow};
+
+// The row number. What follows it depends on the version.
+pub fn gap_number(w: &[u8; WINDOW], at: usize, version: u64, k: u64, out: &mut [u64; 7]) -> usize
+    requires { ⌜ Lined (drop at (now w)) ⌝ }
+    ensures { λ e. ⌜ GoesRow version k (now (w .entry)) at (now (out .exit)) e ⌝ }
+{
+    let a = skip_in(w, at);
+    if at_end(w, a) {
+        return 0;
+    }
+    field_number(w, a, version, k, out)
+}
+
+fn field_number(w: &[u8; WINDOW], at: usize, version: u64, k: u64, out: &mut [u64; 7]) -> usize
+    requires { ⌜ Starts (now w) at ⌝ }
+    ensures { λ e. ⌜ GoesRow version k (now (w .entry)) at (now (out .exit)) e ⌝ }
+{
+    let s = fields::number_field(w, at, k);
+    let e = s.end;
+    if e == 0 {
+        return 0;
+    }
+    match version {
+        11 => gap_offset11(w, e, out),
+        12 => gap_offset12(w, e, out),
+        _ => 0,
+    }
+}
+
+// The offset in version 1.1, where the bus is 0.
+pub fn gap_offset11(w: &[u8; WINDOW], at: usize, out: &mut [u64; 7]) -> usize
+    requires { ⌜ Lined (drop at (now w)) × Ready stage.Offset11 0 0 0 (now out) ⌝ }
+    ensures { λ e. ⌜ Goes (known stage.Offset11 0 0 0 (now (out .entry))) (now (w .entry)) at (now (out .exit)) e ⌝ }
+{
+    let a = skip_in(w, at);
+    if at_end(w, a) {
+        return 0;
+    }
+    field_offset11(w, a, out)
+}
+
+fn field_offset11(w: &[u8; WINDOW], at: usize, out: &mut [u64; 7]) -> usize
+    requires { ⌜ Starts (now w) at × Ready stage.Offset11 0 0 0 (now out) ⌝ }
+    ensures { λ e. ⌜ Goes (known stage.Offset11 0 0 0 (now (out .entry))) (now (w .entry)) at (now (out .exit)) e ⌝ }
+{
+    let s = fields::offset_field(w, at, 1);
+    let e = s.end;
+    if e == 0 {
+        return 0;
+    }
+    put(out, 0, s.value);
+    put(out, 1, 0);
+    gap_mark(w, e, out)
+}
+
+// The offset in version 1.2.
+pub fn gap_offset12(w: &[u8; WINDOW], at: usize, out: &mut [u64; 7]) -> usize
+    requires { ⌜ Lined (drop at (now w)) × Ready stage.Offset12 0 0 0 (now out) ⌝ }
+    ensures { λ e. ⌜ Goes (known stage.Offset12 0 0 0 (now (out .entry))) (now (w .entry)) at (now (out .exit)) e ⌝ }
+{
+    let a = skip_in(w, at);
+    if at_end(w, a) {
+        return 0;
+    }
+    field_offset12(w, a, out)
+}
+
+fn field_offset12(w: &[u8; WINDOW], at: usize, out: &mut [u64; 7]) -> usize
+    requires { ⌜ Starts (now w) at × Ready stage.Offset12 0 0 0 (now out) ⌝ }
+    ensures { λ e. ⌜ Goes (known stage.Offset12 0 0 0 (now (out .entry))) (now (w .entry)) at (now (out .exit)) e ⌝ }
+{
+    let s = fields::offset_field(w, at, 3);
+    let e = s.end;
+    if e == 0 {
+        return 0;
+    }
+    put(out, 0, s.value);
+    gap_bus(w, e, out)
+}
+
+// The bus.
+pub fn gap_bus(w: &[u8; WINDOW], at: usize, out: &mut [u64; 7]) -> usize
+    requires { ⌜ Lined (drop at (now w)) × Ready stage.Bus 0 0 0 (now out) ⌝ }
+    ensures { λ e. ⌜ Goes (known stage.Bus 0 0 0 (now (out .entry))) (now (w .entry)) at (now (out .exit)) e ⌝ }
+{
+    let a = skip_in(w, at);
+    if at_end(w, a) {
+        return 0;
+    }
+    field_bus(w, a, out)
+}
+
+fn field_bus(w: &[u8; WINDOW], at: usize, out: &mut [u64; 7]) -> usize
+    requires { ⌜ Starts (now w) at × Ready stage.Bus 0 0 0 (now out) ⌝ }
+    ensures { λ e. ⌜ Goes (known stage.Bus 0 0 0 (now (out .entry))) (now (w .entry)) at (now (out .exit)) e ⌝ }
+{
+    let s = fields::bus_field(w, at);
+    let e = s.end;
+    if e == 0 {
+        return 0;
+    }
+    put(out, 1, s.value);
+    gap_mark(w, e, out)
+}
+
+// `Rx`, `Tx`, `Warng` or `Error`: frames, warnings and error frames part here.
+pub fn gap_mark(w: &[u8; WINDOW], at: usize, out: &mut [u64; 7]) -> usize
+    requires { ⌜ Lined (drop at (now w)) × Ready stage.Mark 0 0 0 (now out) ⌝ }
+    ensures { λ e. ⌜ Goes (known stage.Mark 0 0 0 (now (out .entry))) (now (w .entry)) at (now (out .exit)) e ⌝ }
+{
+    let a = skip_in(w, at);
+    if at_end(w, a) {
+        return 0;
+    }
+    field_mark(w, a, out)
+}
+
+fn field_mark(w: &[u8; WINDOW], at: usize, out: &mut [u64; 7]) -> usize
+    requires { ⌜ Starts (now w) at × Ready stage.Mark 0 0 0 (now out) ⌝ }
+    ensures { λ e. ⌜ Goes (known stage.Mark 0 0 0 (now (out .entry))) (now (w .entry)) at (now (out .exit)) e ⌝ }
+{
+    let s = fields::mark_field(w, at);
+    let e = s.end;
+    if e == 0 {
+        return 0;
+    }
+    let m = s.value;
+    if m <= 1 {
+        put(out, 2, m);
+        return gap_id(w, e, out);
+    }
+    if m == 2 {
+        return gap_warning_id(w, e, out);
+    }
+    gap_error_id(w, e, out)
+}
