@@ -137,15 +137,14 @@ module _ {w : List ℕ} {at : ℕ} {s : Scan} (c : Scanned DecimalDigit 10 12 w 
 pub number-lead : (w : List ℕ) (at : ℕ) {k : ℕ} {f rest : List ℕ} → FieldAt f rest (drop at w) → NumberField k f → getD w at 0 ≢ 48
 number-lead w at {rest = rest} a p = lead w at _ (p .spelled) (p .low) (spread (p .digits) (41 ∷ []) a (p .bytes))
 
-pub record NumberShape (w : List ℕ) (at : ℕ) (s : Scan) (k : ℕ) : Type 0 where
+pub record NumberShape (w : List ℕ) (at : ℕ) (s : Scan) : Type 0 where
   pub some : at < s .end
   pub few : s .end ≤ at + 6
-  pub value : s .value ≡ k
   pub mark : getD w (s .end) 0 ≡ 41
   pub stop : End (getD w (s .end + 1) 0)
 
 pub number-shape : {w : List ℕ} {at k : ℕ} {s : Scan} {f rest : List ℕ} → Scanned DecimalDigit 10 12 w at s → FieldAt f rest (drop at w)
-    → NumberField k f → NumberShape w at s k
+    → NumberField k f → NumberShape w at s
 number-shape {w} {at} {k} {s} {f} {rest} c a p =
     let l = decimal-few 5 (p .spelled) (omega arith) in
     let n = p .spelled .some in
@@ -155,28 +154,27 @@ number-shape {w} {at} {k} {s} {f} {rest} c a p =
     record {
       some = omega arith;
       few = omega arith;
-      value = o .value;
       mark = h .0;
       stop = ended w (s .end + 1) (goes-on w (s .end) 41 (c .lined) (h .0) (omega arith)) (rw (h .1) (a .stops));
     }
 
-pub number-accept : {w : List ℕ} {at k : ℕ} {s : Scan} → Scanned DecimalDigit 10 12 w at s → getD w at 0 ≢ 48 → NumberShape w at s k
-    → Takes (λ v f. NumberField k f) w at (record { end = s .end + 1; value = k })
-number-accept {w} {at} {k} {s} c z h =
+pub number-accept : {w : List ℕ} {at : ℕ} {s : Scan} → Scanned DecimalDigit 10 12 w at s → getD w at 0 ≢ 48 → NumberShape w at s
+    → Takes NumberField w at (record { end = s .end + 1; value = s .value })
+number-accept {w} {at} {s} c z h =
     let l = inside w (s .end) (c .lined) in
     let m = h .some in
     let e : slice at (s .end + 1) w ≡ slice at (s .end) w ++ (41 ∷ []) =
     rw (add-one, slice-snoc at (s .end) w (omega arith) l, h .mark) in
     let n = scan-within c 6 (h .few) in
     let b : Solid 41 = record { blank = λ q. omega arith; end = λ q. omega arith } in
-    accept (λ v f. NumberField k f) w at (s .end + 1) k (omega arith) (omega arith)
+    accept NumberField w at (s .end + 1) (s .value) (omega arith) (omega arith)
     (rw e (all-append (solid-digits (c .digits)) (more b empty))) (h .stop)
     (record {
       digits = slice at (s .end) w;
       bytes = e;
-      spelled = rw (h .value) at (spelled c m (λ _. z));
-      low = rw (h .value) at (spelled-low c m z);
-      high = omega (arith, h .value);
+      spelled = spelled c m (λ _. z);
+      low = spelled-low c m z;
+      high = omega arith;
     })
 
 -- The bus.

@@ -81,10 +81,10 @@ fn hexadecimal(w: &[u8; WINDOW], at: usize) -> Scan
     Scan { end: i, value: n }
 }
 
-// The row number k and `)`.
-pub fn number_field(w: &[u8; WINDOW], at: usize, k: u64) -> Scan
+// A row number and `)`.
+pub fn number_field(w: &[u8; WINDOW], at: usize) -> Scan
     requires { ⌜ Starts (now w) at ⌝ }
-    ensures { λ s. ⌜ Takes (λ v f. NumberField k f) (now (w .entry)) at s ⌝ }
+    ensures { λ s. ⌜ Takes NumberField (now (w .entry)) at s ⌝ }
 {
     let bytes: &[u8] = w;
     if bytes[at] == 48 {
@@ -98,18 +98,16 @@ pub fn number_field(w: &[u8; WINDOW], at: usize, k: u64) -> Scan
     if at + 6 < e {
         return none();
     }
-    if s.value != k {
-        return none();
-    }
     if bytes[e] != 41 {
         return none();
     }
     if !ends(bytes[e + 1]) {
         return none();
     }
+    let number = s.value;
     Scan {
         end: e + 1,
-        value: k,
+        value: number,
     }
 }
 

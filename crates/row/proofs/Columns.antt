@@ -1,6 +1,7 @@
 -- What each stage knows: the columns that it takes off a row, and what it puts back.
 use Prim.Native.Nat.{ℕ, zero, suc, _+_, _-_, _^_, _≤_, _<_}
 use mathlib.Core.Path.{_≡_, refl, sym, _∙_}
+use mathlib.Core.Logic.{_≢_}
 use mathlib.Core.List.{List, _∷_}
 use native.Mathlib.Omega.{arith}
 use lib.ListN.{length}
@@ -9,15 +10,14 @@ use Rattle.fields.specs.declared.Scan.{Scan}
 use Rattle.fields.specs.Columns.{NumberField, OffsetField, BusField, IdField, standard, long, LengthField}
 use Rattle.fields.specs.Window.{HexField, MarkField}
 use Rattle.fields.specs.Window.{rx as mark-rx, tx as mark-tx, warng as mark-warng, error as mark-err}
-use Rattle.fields.proofs.Columns.{offset-one, bus-one, length-one, mark-one}
+use Rattle.fields.proofs.Columns.{number-one, offset-one, bus-one, length-one, mark-one}
 use Rattle.record.specs.declared.Record.{Record}
-use Rattle.record.specs.Record.{ErrorId}
 use Rattle.row.specs.declared.Part.{Part}
 use Rattle.row.specs.declared.Step.{Step}
 use Rattle.row.specs.declared.Stage.{Stage}
 use Rattle.row.specs.declared.Stage.the-variants as stage
 use Rattle.row.specs.Row
-use Rattle.row.specs.Stages.{Steps, known2, known4, continues, good}
+use Rattle.row.specs.Stages.{Steps, Continues, Good, known2, known4, continues}
 use Rattle.row.proofs.Moves.{Got, barred, went}
 
 -- The state behind a field.
@@ -44,15 +44,18 @@ after-id (Row.frame-id i l) = (i, l)
 pub after-length : {sent : ℕ} {r : Record} {f : List ℕ} {fs : List (List ℕ)} → Row.FrameLength sent r (f ∷ fs) → LengthField (r .len) f × Row.FrameData sent r fs
 after-length (Row.frame-length l d) = (l, d)
 
+-- The row number.
+module _ {w : List ℕ} {at k : ℕ} {s : Scan} {version : ℕ} (t : Step) (g : Got NumberField w at s) where
+  -- no row k has another number
+  pub number-barred : t .at ≡ 0 → s .value ≢ k → Steps w at (λ fs r. Row.RowFields version k r fs) t
+  number-barred z n = barred t g z (λ f fs r h e c. n (number-one h (after-number c .0)))
+
+  -- and the columns from the offset on follow it
+  pub number-went : t .at ≡ s .end → s .value ≡ k → Good (t .part) → ((fs : List (List ℕ)) (r : Record) → Continues (t .part) fs r ≡ Row.FromOffset r version fs)
+      → Steps w at (λ fs r. Row.RowFields version k r fs) t
+  number-went z e d o = went t g z d (λ f fs r h _ c. rw o (after-number c .1)) (λ f fs r h _ c. Row.number (rw e at h) (rw o at c))
+
 module _ {w : List ℕ} {at : ℕ} (p : Part) {s : Scan} where
-  pub number11-went : good stage.Number11 p → Got (λ v f. NumberField (p .left) f) w at s
-      → Steps w at (continues stage.Number11 p) (behind (s .end) stage.Offset11 0 0 (p .r))
-  number11-went d g = went _ g refl d (λ f fs r n e c. after-number c .1) (λ f fs r n e o. Row.number n o)
-
-  pub number12-went : good stage.Number12 p → Got (λ v f. NumberField (p .left) f) w at s
-      → Steps w at (continues stage.Number12 p) (behind (s .end) stage.Offset12 0 0 (p .r))
-  number12-went d g = went _ g refl d (λ f fs r n e c. after-number c .1) (λ f fs r n e o. Row.number n o)
-
   pub offset11-went : (q : Record) → q .offset ≡ s .value → q .bus ≡ 0 → q .«data» ≡ 0 → Got (OffsetField 1) w at s
       → Steps w at (continues stage.Offset11 p) (behind (s .end) stage.Mark 0 0 q)
   offset11-went q x y d g =

@@ -15,8 +15,6 @@ use Rattle.row.proofs.Data.{no-more, none-left}
 
 -- The stages that a row may end in.
 abbrev pub last : Stage → Bool
-last stage.Number11 = false
-last stage.Number12 = false
 last stage.Offset11 = false
 last stage.Offset12 = false
 last stage.Bus = false
@@ -60,8 +58,6 @@ module _ (p : Part) where
   left-early x g n = early (go x g)
     where
       go : (x : Stage) → good x p → (r : Record) → continues x p [] r → ⊥
-      go stage.Number11 g r c = elim c [ ]
-      go stage.Number12 g r c = elim c [ ]
       go stage.Offset11 g r c = elim c [ ]
       go stage.Offset12 g r c = elim c [ ]
       go stage.Bus g r c = elim (c .1) [ ]
@@ -79,8 +75,6 @@ module _ (p : Part) where
       go stage.ErrorSecond g r c = elim (c .bytes) [ ]
 
   none-ends : (x : Stage) → good x p → p .left ≡ 0 → Ends x p (last x)
-  none-ends stage.Number11 g n = early (λ r c. elim c [ ])
-  none-ends stage.Number12 g n = early (λ r c. elim c [ ])
   none-ends stage.Offset11 g n = early (λ r c. elim c [ ])
   none-ends stage.Offset12 g n = early (λ r c. elim c [ ])
   none-ends stage.Bus g n = early (λ r c. elim (c .1) [ ])

@@ -12,7 +12,6 @@ use Rattle.row.specs.declared.Part.{Part}
 use Rattle.row.specs.declared.Step.{Step}
 use Rattle.fields.specs.Window.{FieldAt}
 use Rattle.row.specs.Row.{
-  RowFields,
   FromOffset,
   FromBus,
   FromMark,
@@ -68,8 +67,6 @@ pub record GathersSecond (p : Part) (fs : List (List ℕ)) (r : Record) : Type 0
   pub total : r .«data» ≡ p .r .«data» + sum
 
 abbrev pub continues : Stage → Part → List (List ℕ) → Record → Type 0
-continues stage.Number11 p fs r = RowFields 11 (p .left) r fs
-continues stage.Number12 p fs r = RowFields 12 (p .left) r fs
 continues stage.Offset11 p fs r = FromOffset r 11 fs
 continues stage.Offset12 p fs r = FromOffset r 12 fs
 continues stage.Bus p fs r = (r .offset ≡ p .r .offset) × FromBus r fs
@@ -92,8 +89,6 @@ Continues p fs r = continues (p .stage) p fs r
 
 -- What holds of every state that is reached: the data so far leaves room for the bytes that are left.
 abbrev pub good : Stage → Part → Type 0
-good stage.Number11 p = p .r .«data» ≡ 0
-good stage.Number12 p = p .r .«data» ≡ 0
 good stage.Offset11 p = p .r .«data» ≡ 0
 good stage.Offset12 p = p .r .«data» ≡ 0
 good stage.Bus p = p .r .«data» ≡ 0

@@ -5,10 +5,8 @@ use record::Record;
 // The place value of the first of eight data bytes: 256 ^ 7.
 pub const FIRST_PLACE: u64 = 72057594037927936;
 
-// Where the reader is in the columns of a row: what the next field is.
+// Where the reader is in the columns of a row behind its number: what the next field is.
 pub enum Stage {
-    Number11,
-    Number12,
     Offset11,
     Offset12,
     Bus,
@@ -27,7 +25,6 @@ pub enum Stage {
 }
 
 // What is known after some fields: the record so far, and of the bytes that are left their number and the place value of the first.
-// Before the row number is read, `left` is the number that is expected.
 pub struct Part {
     pub stage: Stage,
     pub left: u64,

@@ -27,8 +27,8 @@ use Rattle.row.proofs.Columns.{
   after-length,
   some-mark,
   some-id,
-  number11-went,
-  number12-went,
+  number-barred,
+  number-went,
   offset11-went,
   offset12-went,
   bus-went,
@@ -77,15 +77,18 @@ use Rattle.row_reader.specs.Chain.{seen, known, Ready, GoesRow, Leads, P
 use Rattle.row_reader.specs.Chain.{none as none-found}
 
 -- The row number.
-module _ {w : List ℕ} {at k : ℕ} {s : Scan} (t : Takes (λ v f. NumberField k f) w at s) where
-  pub number-off : {version : ℕ} (out : List ℕ) → s .end ≡ 0 → Steps w at (λ fs r. Row.RowFields version k r fs) (behind 0 stage.Mark 0 0 (seen out 0))
-  number-off out z = refused _ t z refl (λ f fs r h. (0, after-number h .0))
+module _ {w : List ℕ} {at k : ℕ} {s : Scan} (t : Takes NumberField w at s) (out : List ℕ) where
+  pub number-off : {version : ℕ} → s .end ≡ 0 → Steps w at (λ fs r. Row.RowFields version k r fs) (behind 0 stage.Mark 0 0 (seen out 0))
+  number-off z = refused _ t z refl (λ f fs r h. (k, after-number h .0))
 
-  pub number-11 : (out : List ℕ) → s .end ≢ 0 → Steps w at (λ fs r. Row.RowFields 11 k r fs) (behind (s .end) stage.Offset11 0 0 (seen out 0))
-  number-11 out n = number11-went (known stage.Number11 k 0 0 out) refl (got t n)
+  pub number-none : {version : ℕ} → s .end ≢ 0 → s .value ≢ k → Steps w at (λ fs r. Row.RowFields version k r fs) (behind 0 stage.Mark 0 0 (seen out 0))
+  number-none n f = number-barred _ (got t n) refl f
 
-  pub number-12 : (out : List ℕ) → s .end ≢ 0 → Steps w at (λ fs r. Row.RowFields 12 k r fs) (behind (s .end) stage.Offset12 0 0 (seen out 0))
-  number-12 out n = number12-went (known stage.Number12 k 0 0 out) refl (got t n)
+  pub number-11 : s .end ≢ 0 → s .value ≡ k → Steps w at (λ fs r. Row.RowFields 11 k r fs) (behind (s .end) stage.Offset11 0 0 (seen out 0))
+  number-11 n e = number-went _ (got t n) refl e refl (λ fs r. refl)
+
+  pub number-12 : s .end ≢ 0 → s .value ≡ k → Steps w at (λ fs r. Row.RowFields 12 k r fs) (behind (s .end) stage.Offset12 0 0 (seen out 0))
+  number-12 n e = number-went _ (got t n) refl e refl (λ fs r. refl)
 
 versions : {v k : ℕ} {r : Record} {fs : List (List ℕ)} → Row.RowFields v k r fs → (v ≡ 11 → ⊥) → (v ≡ 12 → ⊥) → ⊥
 versions (Row.number n (Row.one o b m)) p q = p refl

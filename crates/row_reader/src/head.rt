@@ -27,9 +27,12 @@ fn field_number(w: &[u8; WINDOW], at: usize, version: u64, k: u64, out: &mut [u6
     requires { ⌜ Starts (now w) at ⌝ }
     ensures { λ e. ⌜ GoesRow version k (now (w .entry)) at (now (out .exit)) e ⌝ }
 {
-    let s = fields::number_field(w, at, k);
+    let s = fields::number_field(w, at);
     let e = s.end;
     if e == 0 {
+        return 0;
+    }
+    if s.value != k {
         return 0;
     }
     match version {

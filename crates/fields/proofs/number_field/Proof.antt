@@ -22,24 +22,21 @@ number-field-spec =
     (λ c. let s = c .before .before .before .before .before in omega (arith, inside (s .args .w .now) (s .args .at) (s .pre .lined)))
     (λ c κs. search needs)
     (λ c. not (c .none3 .ensures) (λ f rest a v p. let h = number-shape (c .before .before .before .decimal .ensures) a p in omega arith))
+    (λ c. inside _ _ (c .before .before .before .decimal .ensures .lined))
     (λ c κs. search needs)
-    (λ c. not (c .none4 .ensures) (λ f rest a v p. let h = number-shape (c .before .before .before .before .before .decimal .ensures) a p in c .before .if4 .taken (h .value)))
-    (λ c. inside _ _ (c .before .before .before .before .before .decimal .ensures .lined))
-    (λ c κs. search needs)
-    (λ c. not (c .none5 .ensures) (λ f rest a v p. let h = number-shape (c .before .before .before .before .before .before .before .decimal .ensures) a p in c .before .if5 .taken (h .mark)))
-    (λ c. let d = c .before .before .before .before .before .before .decimal in let s = c .before .before .before .before .before .before .before .before .before .before in omega (arith, inside (s .args .w .now) (d .result .end) (d .ensures .lined)))
-    (λ c. let w = c .before .before .before .before .before .before .before .before .before .before .before .args .w .now in let d = c .before .before .before .before .before .before .before .decimal in
-    inside w (d .result .end + 1) (goes-on w (d .result .end) 41 (d .ensures .lined) (c .before .if5 .left) (omega arith)))
+    (λ c. not (c .none4 .ensures) (λ f rest a v p. let h = number-shape (c .before .before .before .before .before .decimal .ensures) a p in c .before .if4 .taken (h .mark)))
+    (λ c. let d = c .before .before .before .before .decimal in let s = c .before .before .before .before .before .before .before .before in omega (arith, inside (s .args .w .now) (d .result .end) (d .ensures .lined)))
+    (λ c. let w = c .before .before .before .before .before .before .before .before .before .args .w .now in let d = c .before .before .before .before .before .decimal in
+    inside w (d .result .end + 1) (goes-on w (d .result .end) 41 (d .ensures .lined) (c .before .if4 .left) (omega arith)))
     (λ c κs. search needs)
     (λ c κs. search needs)
-    (λ c. not (c .none6 .ensures) (λ f rest a v p. let h = number-shape (c .before .before .before .before .before .before .before .before .before .before .decimal .ensures) a p in
-    refuted-not (c .before .before .ends .result) (c .before .before .ends .ensures) (c .before .if6 .taken) (h .stop)))
-    (λ c. let d = c .before .before .before .before .before .before .before .before .before .decimal in let s = c .before .before .before .before .before .before .before .before .before .before .before .before .before in omega (arith, inside (s .args .w .now) (d .result .end) (d .ensures .lined)))
-    (λ c. number-accept (c .before .before .before .before .before .before .before .before .before .decimal .ensures) (c .before .before .before .before .before .before .before .before .before .before .if1 .left)
+    (λ c. not (c .none5 .ensures) (λ f rest a v p. let h = number-shape (c .before .before .before .before .before .before .before .before .decimal .ensures) a p in
+    refuted-not (c .before .before .ends .result) (c .before .before .ends .ensures) (c .before .if5 .taken) (h .stop)))
+    (λ c. let d = c .before .before .before .before .before .before .before .decimal in let s = c .before .before .before .before .before .before .before .before .before .before .before in omega (arith, inside (s .args .w .now) (d .result .end) (d .ensures .lined)))
+    (λ c. number-accept (c .before .before .before .before .before .before .before .decimal .ensures) (c .before .before .before .before .before .before .before .before .if1 .left)
     (record {
-      some = let l = c .before .before .before .before .before .before .before .before .before .decimal .ensures .from in omega arith;
+      some = let l = c .before .before .before .before .before .before .before .decimal .ensures .from in omega arith;
       few = omega arith;
-      value = c .before .before .before .before .before .if4 .left;
-      mark = c .before .before .before .if5 .left;
-      stop = shown-not (c .before .ends .result) (c .before .ends .ensures) (c .if6 .left);
+      mark = c .before .before .before .if4 .left;
+      stop = shown-not (c .before .ends .result) (c .before .ends .ensures) (c .if5 .left);
     })))
