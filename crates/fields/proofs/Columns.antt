@@ -8,7 +8,7 @@ use native.Mathlib.Omega.{arith}
 use lib.Dec.{T, eqb, leb, leb→le}
 use lib.ListN.{length, getD, length-append}
 use Rattle.base.proofs.Tables.{every, at}
-use Rattle.digits.specs.Digits.{DecimalDigit, CasedDigit, figure, letter, HexDigit, capital, small, Digits, Decimal, Hex}
+use Rattle.digits.specs.Digits.{DecimalDigit, CasedDigit, figure, letter, HexDigit, capital, small, Digits, Hex}
 use Rattle.digits.proofs.Theorems.{one-decimal, one-padded, one-hex}
 use Rattle.fields.specs.Runs.{All, empty, more, halt}
 use Rattle.fields.specs.Columns.{NumberField, OffsetField, BusField, LengthField, IdField, standard, long, Capital, markRx, markTx, markWarng, markError, remoteText}

@@ -2,6 +2,7 @@ pub mod Columns
 pub mod DigitFields
 pub mod Digits
 pub mod FixedFields
+pub mod Gaps
 pub mod Parts
 pub mod Runs
 pub mod Scans

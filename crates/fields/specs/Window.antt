@@ -30,6 +30,13 @@ pub record Lined (s : List ℕ) : Type 0 where
   pub line : List ℕ
   pub is : LineOf line s
 
+-- The blanks from `at` on end at a.
+pub record Skipped (w : List ℕ) (at a : ℕ) : Type 0 where
+  pub from : at ≤ a
+  pub blanks : All (λ b. b ≡ 32) (slice at a w)
+  pub stop : getD w a 0 ≢ 32
+  pub lined : Lined (drop a w)
+
 -- The field f stands at the start of s, and rest behind it.
 pub record FieldAt (f rest s : List ℕ) : Type 0 where
   pub bytes : s ≡ f ++ rest

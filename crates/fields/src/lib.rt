@@ -1,18 +1,18 @@
-// Reads single fields of the window. A field is read without searching its end first: what stops its digits must end it.
+// Skips the gap before a field of the window, and reads single fields of it. A field is read without searching its end first: what stops its digits must end it.
 // Each reader takes the window as a slice first, `bytes`: a proof learns the length of an array behind a reference in no other way.
 use base::wide;
 use digits::hex_value;
 use digits::is_hex;
 ghost use mathlib.Core.Path.{_≡_};
 ghost use mathlib.Core.Logic.{_⊎_};
-ghost use mathlib.Core.List.{List, [], _∷_};
-ghost use Prim.Native.Nat.{ℕ, _+_, _≤_, _<_};
+ghost use mathlib.Core.List.{[], _∷_};
+ghost use Prim.Native.Nat.{_<_};
 ghost use lib.ListN.{length, getD, drop};
 ghost use Rattle.base.specs.Decides.{Decides};
 ghost use Rattle.digits.specs.Digits.{DecimalDigit, HexDigit, Hex};
 ghost use Rattle.fields.specs.Runs.{All};
 ghost use Rattle.fields.specs.Columns.{NumberField, OffsetField, BusField, LengthField, Capital, remoteText};
-ghost use Rattle.fields.specs.Window.{Lined, Solid, FieldAt, Starts, Scanned, Takes, HexField, MarkField};
+ghost use Rattle.fields.specs.Window.{Lined, Skipped, Solid, Starts, Scanned, Takes, HexField, MarkField};
 
 // How many bytes a window has. A row is read from a window, behind a thin reference: over a slice each gap and each field would be a real
 // call with two numbers more.
@@ -32,6 +32,44 @@ pub fn ends(b: u8) -> bool
         return true;
     }
     b == 13
+}
+
+// The place behind the blanks. Most gaps are one blank: they are passed before the loop.
+pub fn skip_in(w: &[u8; WINDOW], at: usize) -> usize
+    requires { ⌜ Lined (drop at (now w)) ⌝ }
+    ensures { λ a. ⌜ Skipped (now (w .entry)) at a ⌝ }
+    ensures { λ a. ⌜ a < 4096 ⌝ }
+{
+    let bytes: &[u8] = w;
+    skip(bytes, at)
+}
+
+fn skip(s: &[u8], at: usize) -> usize
+    requires { ⌜ Lined (drop at (now s)) ⌝ }
+    ensures { λ a. ⌜ Skipped (now (s .entry)) at a ⌝ }
+    ensures { λ a. ⌜ a < length (now (s .entry)) ⌝ }
+{
+    if s[at] != 32 {
+        return at;
+    }
+    let mut a = at + 1;
+    if s[a] != 32 {
+        return a;
+    }
+    a += 1;
+    while s[a] == 32 {
+        a += 1;
+    }
+    a
+}
+
+// Whether the line ends here.
+pub fn at_end(w: &[u8; WINDOW], a: usize) -> bool
+    requires { ⌜ Lined (drop a (now w)) ⌝ }
+    ensures { λ b. ⌜ Decides (getD (now (w .entry)) a 0 ≡ 13) b ⌝ }
+{
+    let bytes: &[u8] = w;
+    bytes[a] == 13
 }
 
 // No such field.

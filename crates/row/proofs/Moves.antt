@@ -1,5 +1,5 @@
 -- What a stage does to the state: one law for each stage.
-use Prim.Native.Nat.{ℕ, _+_, _-_}
+use Prim.Native.Nat.{ℕ, _+_}
 use mathlib.Core.Path.{_≡_, _∙_}
 use mathlib.Core.List.{List, _∷_}
 use native.Mathlib.Omega.{arith}
@@ -9,7 +9,6 @@ use Rattle.fields.specs.Window.{FieldAt, Takes, taken, not}
 use Rattle.fields.proofs.Window.{field-one}
 use Rattle.record.specs.declared.Record.{Record}
 use Rattle.row.specs.declared.Step.{Step}
-use Rattle.row.specs.declared.Stage.the-variants as stage
 use Rattle.row.specs.Stages.{Steps, moved, stuck, Continues, Good}
 
 -- A field that a reader took.

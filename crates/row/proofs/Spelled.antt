@@ -15,7 +15,7 @@ use Rattle.digits.proofs.Theorems.{hex-spells}
 use Rattle.fields.specs.Columns.{NumberField, OffsetField, IdField, standard, long, LengthField, lastNumber}
 use Rattle.fields.proofs.Runs.{all-map}
 use Rattle.record.specs.declared.Record.{Record}
-use Rattle.record.specs.Record.{offsetLimit, one, eight, WellFormed}
+use Rattle.record.specs.Record.{offsetLimit, WellFormed}
 use Rattle.row.specs.Row
 use Rattle.row.specs.Carries.{Carries, v11, v12}
 use Rattle.row.specs.House.{numberText, markText, idText, byteTexts, dataTexts, rowTexts, rowText}

@@ -1,26 +1,25 @@
 -- The laws that every gap and every field of the chain cites.
-use Prim.Native.Nat.{ℕ, _≤_}
-use mathlib.Core.Path.{_≡_, refl, sym}
+use Prim.Native.Nat.{ℕ}
+use mathlib.Core.Path.{_≡_, refl}
 use mathlib.Core.Logic.{_≢_}
 use mathlib.Core.Bool.{Bool, true, false}
-use mathlib.Core.List.{List, [], _∷_}
+use mathlib.Core.List.{List, []}
 use native.Mathlib.Decide.{ℕ-discrete}
 use native.Mathlib.Omega.{arith}
 use lib.ListN.{getD, drop}
 use Rattle.base.specs.Decides.{Decides}
 use Rattle.base.proofs.Tests.{shown, refuted}
-use Rattle.fields.specs.Window.{LineOf, Lined, Starts}
+use Rattle.fields.specs.Window.{Lined, Skipped, Starts}
 use Rattle.fields.proofs.Parts.{only-none}
 use Rattle.record.specs.declared.Record.{Record}
-use Rattle.row.specs.declared.Part.{Part}
 use Rattle.row.specs.declared.Stage.{Stage}
 use Rattle.row.specs.declared.Step.{Step}
-use Rattle.row.specs.Row.{Row, RowFields}
+use Rattle.row.specs.Row.{RowFields}
 use Rattle.row.specs.Stages.{Steps, Continues}
 use Rattle.row.proofs.Columns.{behind}
 use Rattle.row.proofs.Ending.{last, ends-at, left-early}
 use Rattle.row_reader.specs.Answer.{RowFound, row-found, no-row}
-use Rattle.row_reader.specs.Chain.{Skipped, Finds, found, Leads, Goes, GoesRow, Ready, known, seen, Finished, all-read, some-left}
+use Rattle.row_reader.specs.Chain.{Finds, found, Leads, Goes, GoesRow, Ready, known, seen, Finished, all-read, some-left}
 use Rattle.row_reader.specs.Chain.{none as none-found}
 use Rattle.row_reader.proofs.Walk.{gap-found, gap-starts, end-found, field-found, field-none, not-whole, is-whole, onward}
 

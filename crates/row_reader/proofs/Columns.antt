@@ -1,9 +1,9 @@
 -- A law for each column of the chain: `X-on`, the field is there and the slots are put; `X-off`, it is not; `X-barred`, no row goes on with its
 -- value.
 use Prim.Native.Nat.{ℕ, _+_, _*_, _-_, _/_, _^_, _≤_, _<_}
-use mathlib.Core.Path.{_≡_, refl, sym}
+use mathlib.Core.Path.{_≡_, refl}
 use mathlib.Core.Logic.{_≢_}
-use mathlib.Core.List.{List, [], _∷_}
+use mathlib.Core.List.{List}
 use native.Mathlib.Omega.{arith}
 use native.Mathlib.Nat.{zero-add}
 use lib.ListN.{getD}
@@ -11,7 +11,7 @@ use Rattle.digits.specs.Digits.{Hex}
 use Rattle.fields.specs.declared.Scan.{Scan}
 use Rattle.fields.specs.Columns.{NumberField, OffsetField, BusField, LengthField, Capital, remoteText}
 use Rattle.fields.specs.Runs.{All}
-use Rattle.fields.specs.Window.{Starts, Takes, taken, not, HexField, MarkField}
+use Rattle.fields.specs.Window.{Takes, taken, not, HexField, MarkField}
 use Rattle.record.specs.declared.Record.{Record}
 use Rattle.record.specs.Record.{ErrorId, Position}
 use Rattle.row.specs.declared.Stage.the-variants as stage
@@ -52,7 +52,7 @@ use Rattle.row.proofs.Data.{
   data-barred,
   data-went,
 }
-use Rattle.row.proofs.Moves.{Got, got, refused, barred}
+use Rattle.row.proofs.Moves.{got, refused}
 use Rattle.row.proofs.Warnings.{
   some-warning-id,
   some-error-id,
@@ -73,7 +73,7 @@ use Rattle.row.proofs.Warnings.{
   error-second-barred,
   error-second-went,
 }
-use Rattle.row_reader.specs.Chain.{seen, known, Ready, GoesRow, Leads, Puts, PutsRemote, PutsWarning, FormOf, standard, long, neither}
+use Rattle.row_reader.specs.Chain.{seen, known, Ready, GoesRow, Puts, PutsRemote, PutsWarning, FormOf, standard, long, neither}
 use Rattle.row_reader.specs.Chain.{none as none-found}
 
 -- The row number.

@@ -5,7 +5,7 @@ use mathlib.Core.List.{List, [], _∷_}
 use native.Mathlib.Omega.{arith}
 use lib.ListN.{length, getD, set}
 use Rattle.record.specs.Promise.{fieldsOf}
-use Rattle.row_reader.specs.Chain.{seen, front, Puts, PutsRemote, PutsWarning}
+use Rattle.row_reader.specs.Chain.{seen, Puts, PutsRemote, PutsWarning}
 
 -- a list of seven
 pub data Seven : List ℕ → Type 0 where

@@ -1,26 +1,24 @@
 -- A gap changes no field, a field steps the state, and the line's end ends the row.
-use Prim.Native.Nat.{ℕ, suc, _+_, _≤_, _<_}
-use mathlib.Core.Path.{_≡_, refl, ap, sym, subst, _∙_}
+use Prim.Native.Nat.{ℕ, suc, _<_}
+use mathlib.Core.Path.{_≡_, refl, ap, sym, _∙_}
 use mathlib.Core.Logic.{_≢_}
 use mathlib.Core.Bool.{Bool, true, false, true≢false}
 use mathlib.Core.List.{List, [], _∷_, _++_, append-assoc}
 use native.Mathlib.Omega.{arith}
-use lib.ListN.{length, getD, drop, length-append, drop-of-length-le}
-use native.Mathlib.Numerals.{add-one}
-use Rattle.base.proofs.Lists.{slice-snoc}
-use lib.Seq.{slice, slice-empty, drop-cons, length-slice, sets, sets-eq}
+use lib.ListN.{length, getD, drop, length-append}
+use lib.Seq.{slice, drop-cons, length-slice}
 use Rattle.fields.specs.Parted.{NoBlank, Parted, none, blank, field}
 use Rattle.fields.specs.Runs.{All, empty, more, Stops, over, halt}
-use Rattle.fields.specs.Window.{NoEnd, Solid, LineOf, Lined, FieldAt, Starts}
+use Rattle.fields.specs.Window.{NoEnd, Solid, LineOf, Lined, Skipped, FieldAt, Starts}
 use Rattle.fields.proofs.Parts.{Blank, blanks, unblanks, only-none, first, first-only}
-use Rattle.fields.proofs.Runs.{all-map, all-left, all-append}
-use Rattle.fields.proofs.Window.{inside, slice-drop, next-line, next-lined}
+use Rattle.fields.proofs.Runs.{all-map, all-left}
+use Rattle.fields.proofs.Window.{inside, slice-drop, next-line}
 use Rattle.record.specs.declared.Record.{Record}
 use Rattle.record.specs.Promise.{fieldsOf}
 use Rattle.row.specs.declared.Part.{Part}
 use Rattle.row.specs.declared.Step.{Step}
 use Rattle.row.specs.Stages.{Steps, moved, stuck, Ends, whole, early, Continues, Good}
-use Rattle.row_reader.specs.Chain.{Skipped, Finds, found}
+use Rattle.row_reader.specs.Chain.{Finds, found}
 use Rattle.row_reader.specs.Chain.{none as none-found}
 
 -- The line without its first byte, and without bytes of its front.
@@ -170,27 +168,6 @@ module _ {w : List ℕ} {at : ℕ} {C : List (List ℕ) → Record → Type 0} {
   field-none (stuck e f) z k l = none-found refl (λ fs r ps c.
       let x = first-field w at k l ps in
       f (x .field) (x .rest) (x .there) (x .others) r (rw (x .first) at c))
-
--- Skipping blanks: what the loop keeps.
-pub record Blanks (w : List ℕ) (at a : ℕ) : Type 0 where
-  pub from : at ≤ a
-  pub blanks : All Blank (slice at a w)
-  pub lined : Lined (drop a w)
-
-pub no-blank : {w : List ℕ} {at : ℕ} → Lined (drop at w) → Blanks w at at
-no-blank {w} {at} l = record { from = omega arith; blanks = rw (slice-empty at w) empty; lined = l }
-
-pub one-blank : {w : List ℕ} {at a : ℕ} → Blanks w at a → getD w a 0 ≡ 32 → Blanks w at (a + 1)
-one-blank {w} {at} {a} k e =
-    let i = inside w a (k .lined) in
-    record {
-      from = let f = k .from in omega arith;
-      blanks = rw (add-one, slice-snoc at a w (k .from) i) (all-append (k .blanks) (more e empty));
-      lined = next-lined w a (k .lined) (λ h. omega arith);
-    }
-
-pub skipped : {w : List ℕ} {at a : ℕ} → Blanks w at a → getD w a 0 ≢ 32 → Skipped w at a
-skipped k n = record { from = k .from; blanks = k .blanks; stop = n; lined = k .lined }
 
 -- Where the line ends.
 pub end-found : (w : List ℕ) (a : ℕ) {C : List (List ℕ) → Record → Type 0} {out line : List ℕ} {e : ℕ} → LineOf line (drop a w)

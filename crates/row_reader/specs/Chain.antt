@@ -4,23 +4,14 @@ use mathlib.Core.Path.{_≡_}
 use mathlib.Core.Logic.{_≢_}
 use mathlib.Core.List.{List, [], _∷_}
 use lib.ListN.{length, getD, drop, set}
-use lib.Seq.{slice}
 use Rattle.fields.specs.Parted.{Parted}
-use Rattle.fields.specs.Runs.{All}
-use Rattle.fields.specs.Window.{LineOf, Lined}
+use Rattle.fields.specs.Window.{LineOf}
 use Rattle.record.specs.declared.Record.{Record}
 use Rattle.record.specs.Promise.{fieldsOf}
 use Rattle.row.specs.declared.Stage.{Stage}
 use Rattle.row.specs.declared.Part.{Part}
 use Rattle.row.specs.Row.{RowFields}
 use Rattle.row.specs.Stages.{Continues, Good}
-
--- The blanks from `at` on end at a.
-pub record Skipped (w : List ℕ) (at a : ℕ) : Type 0 where
-  pub from : at ≤ a
-  pub blanks : All (λ b. b ≡ 32) (slice at a w)
-  pub stop : getD w a 0 ≢ 32
-  pub lined : Lined (drop a w)
 
 -- The record as the slots have it, with this data.
 abbrev pub seen : List ℕ → ℕ → Record

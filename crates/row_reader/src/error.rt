@@ -1,10 +1,10 @@
 // An error frame, from its ID on: the ID, length 4, 0 or 1, a position, then two error counters.
 use crate::frame::SECOND_PLACE;
 use crate::frame::gap_byte;
-use crate::gaps::at_end;
-use crate::gaps::skip_in;
 use crate::slots::put;
 use fields::WINDOW;
+use fields::at_end;
+use fields::skip_in;
 use row::FIRST_PLACE;
 ghost use lib.ListN.{drop};
 ghost use Rattle.fields.specs.Window.{Lined, Starts};

@@ -1,10 +1,10 @@
 // A frame, from its ID on: the ID, the length, then as many data bytes or `RTR`.
-use crate::gaps::at_end;
-use crate::gaps::skip_in;
 use crate::slots::finish;
 use crate::slots::put;
 use crate::slots::put_remote;
 use fields::WINDOW;
+use fields::at_end;
+use fields::skip_in;
 use row::FIRST_PLACE;
 ghost use Prim.Native.Nat.{_^_};
 ghost use lib.ListN.{drop};

@@ -1,11 +1,11 @@
 // The columns that every row starts with: row number, offset, bus, and `Rx`, `Tx`, `Warng` or `Error`.
 use crate::error::gap_error_id;
 use crate::frame::gap_id;
-use crate::gaps::at_end;
-use crate::gaps::skip_in;
 use crate::slots::put;
 use crate::warning::gap_warning_id;
 use fields::WINDOW;
+use fields::at_end;
+use fields::skip_in;
 ghost use lib.ListN.{drop};
 ghost use Rattle.fields.specs.Window.{Lined, Starts};
 ghost use Rattle.row.specs.declared.Stage.the-variants as stage;

@@ -3,7 +3,6 @@
 // the row. Every parameter is a number or a reference to an array, and the result is a number.
 mod error;
 mod frame;
-mod gaps;
 mod head;
 mod slots;
 mod warning;

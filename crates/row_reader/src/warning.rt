@@ -1,9 +1,9 @@
 // A warning, from its ID on: eight F, length 4, four bytes, then any number of words, ignored.
-use crate::gaps::at_end;
-use crate::gaps::skip_in;
 use crate::slots::finish;
 use crate::slots::put_warning;
 use fields::WINDOW;
+use fields::at_end;
+use fields::skip_in;
 use row::FIRST_PLACE;
 ghost use lib.ListN.{drop};
 ghost use Rattle.fields.specs.Window.{Lined, Starts};

@@ -18,8 +18,8 @@ use Rattle.row_reader.proofs.frame.+field_byte+gap_byte.Lts-field_byte 
 use Rattle.row_reader.proofs.frame.gap_byte.Reads as gap-byte
 use Rattle.row_reader.proofs.frame.gap_byte.Kinds as gap-byte-kinds
 use Rattle.row_reader.proofs.frame.+field_byte+gap_byte.Lts-gap_byte as gap-byte-lts
-use Rattle.row_reader.proofs.gaps.at_end.Reads as at-end-reads
-use Rattle.row_reader.proofs.gaps.skip_in.Reads as skip-in-reads
+use Rattle.fields.proofs.at_end.Reads as at-end-reads
+use Rattle.fields.proofs.skip_in.Reads as skip-in-reads
 use Rattle.row_reader.proofs.slots.finish.Reads as finish-reads
 use Rattle.fields.proofs.byte_field.Reads as byte-field-reads
 use Rattle.row_reader.proofs.frame.+field_byte+gap_byte.{statement}

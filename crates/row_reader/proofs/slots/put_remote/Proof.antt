@@ -1,6 +1,5 @@
 -- `row_reader::slots::put_remote` adds two to the kind.
 use borrow.Author.Needs.{needs}
-use native.Mathlib.Omega.{arith}
 use Rattle.row_reader.proofs.Seven.{puts-remote}
 use Rattle.row_reader.proofs.slots.put_remote.Statement.{statement}
 use Rattle.row_reader.proofs.slots.put_remote.Tie as tie

@@ -1,6 +1,5 @@
 -- `row_reader::slots::put_warning` puts four of seven slots.
 use borrow.Author.Needs.{needs}
-use native.Mathlib.Omega.{arith}
 use lib.ListN.{length-set}
 use Rattle.row_reader.proofs.Seven.{puts-warning}
 use Rattle.row_reader.proofs.slots.put_warning.Statement.{statement}

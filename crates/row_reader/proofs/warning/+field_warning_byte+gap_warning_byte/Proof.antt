@@ -18,8 +18,8 @@ use Rattle.row_reader.proofs.warning.+field_warning_byte+gap_warning_by
 use Rattle.row_reader.proofs.warning.gap_warning_byte.Reads as gap-warning-byte
 use Rattle.row_reader.proofs.warning.gap_warning_byte.Kinds as gap-warning-byte-kinds
 use Rattle.row_reader.proofs.warning.+field_warning_byte+gap_warning_byte.Lts-gap_warning_byte as gap-warning-byte-lts
-use Rattle.row_reader.proofs.gaps.at_end.Reads as at-end-reads
-use Rattle.row_reader.proofs.gaps.skip_in.Reads as skip-in-reads
+use Rattle.fields.proofs.at_end.Reads as at-end-reads
+use Rattle.fields.proofs.skip_in.Reads as skip-in-reads
 use Rattle.row_reader.proofs.slots.finish.Reads as finish-reads
 use Rattle.fields.proofs.word_field.Reads as word-field-reads
 use Rattle.fields.proofs.byte_field.Reads as byte-field-reads

@@ -1,8 +1,8 @@
--- `row_reader::gaps::skip_in` meets its contract: a window has 4,096 bytes.
+-- `fields::skip_in` meets its contract: a window has 4,096 bytes.
 use native.Mathlib.Omega.{arith}
 use borrow.Author.Needs.{needs}
-use Rattle.row_reader.proofs.gaps.skip_in.Statement.{statement}
-use Rattle.row_reader.proofs.gaps.skip_in.Tie as tie
+use Rattle.fields.proofs.skip_in.Statement.{statement}
+use Rattle.fields.proofs.skip_in.Tie as tie
 
 pub skip-in-spec : {M : Type 1} → statement M
 skip-in-spec =

@@ -1,11 +1,11 @@
--- `row_reader::gaps::skip` keeps: the bytes passed are blanks.
+-- `fields::skip` keeps: the bytes passed are blanks.
 use Prim.Native.Nat.{_+_, _-_}
 use native.Mathlib.Omega.{arith}
 use lib.ListN.{length}
 use Rattle.fields.proofs.Window.{inside}
-use Rattle.row_reader.proofs.Walk.{Blanks, no-blank, one-blank, skipped}
-use Rattle.row_reader.proofs.gaps.skip.Statement.{statement}
-use Rattle.row_reader.proofs.gaps.skip.Tie as tie
+use Rattle.fields.proofs.Gaps.{Blanks, no-blank, one-blank, skipped}
+use Rattle.fields.proofs.skip.Statement.{statement}
+use Rattle.fields.proofs.skip.Tie as tie
 
 abbrev Inv-loop : tie.InvT-loop
 Inv-loop w at a₀ a = Blanks w at a
