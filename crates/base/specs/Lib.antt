@@ -1,2 +1,3 @@
 pub mod Decides
+pub mod Limits
 pub mod Wrote

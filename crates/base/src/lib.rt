@@ -1,9 +1,12 @@
-// What every layer shares: one byte widened, one byte or some bytes stored.
+// What every layer shares: the largest offset, one byte widened, one byte or some bytes stored.
 ghost use mathlib.Core.Path.{_≡_};
 ghost use mathlib.Core.List.{[], _∷_};
 ghost use Prim.Native.Nat.{_+_, _≤_, _<_};
 ghost use lib.ListN.{length};
 ghost use Rattle.base.specs.Wrote.{Wrote};
+
+// The largest offset, in microseconds: eleven digits of milliseconds and three of their fraction.
+pub const OFFSET_LIMIT: u64 = 99_999_999_999_999;
 
 // A byte as a number. A read through it asks only for the index, where a cast would ask for the byte's range too.
 pub fn wide(b: u8) -> u64

@@ -7,7 +7,7 @@ use native.Mathlib.Omega.{arith}
 use lib.Dec.{T, eqb, eqb→eq}
 use Rattle.base.proofs.Numbers.{below-or-not}
 use Rattle.base.proofs.Tables.{both, both-left, both-right}
-use Rattle.digits.specs.Digits.{HexDigit, IsHex, capital, small, figure, letter}
+use Rattle.digits.specs.Digits.{IsHex, capital, small, figure, letter}
 use Rattle.digits.proofs.Strings.{cases}
 
 -- the n bits of a word from bit i on are all v

@@ -7,8 +7,11 @@ use native.Mathlib.Nat.{mul-le-mul-right, one-le-pow, add-zero}
 use native.Mathlib.Numerals.{add-one}
 use native.Mathlib.Omega.{arith}
 use native.Mathlib.Decide.{ℕ-discrete}
+use lib.Arith.{digits-lt}
+use lib.Pow.{pow-add}
 use lib.ListN.{length, getD, drop, length-drop, List·getD-append}
 use lib.Seq.{slice, length-slice, drop-cons, getD-drop}
+use Rattle.base.specs.Limits.{offsetLimit}
 use Rattle.base.proofs.Lists.{slice-snoc, cut}
 use Rattle.digits.specs.Digits.{DecimalDigit, HexDigit, Digits, Decimal}
 use Rattle.digits.specs.Digits.{none as no-digits, more as digits-more}
@@ -254,11 +257,19 @@ offset-shape {w} {at} {digits} {v} {s} {f} {rest} m c a p =
           record { width = omega arith; stop = ended w (t .end) (d .lined) (rw (x .behind) (a .stops)) };
     }
 
-pub offset-accept : {w : List ℕ} {at digits : ℕ} {s t : Scan} (v : ℕ) → Scanned DecimalDigit 10 12 w at s
+-- Eleven digits of milliseconds, and w of their fraction, are within the largest offset.
+offset-within : (w m n : ℕ) → w ≤ 3 → m < 10 ^ 11 → n < 10 ^ w → m * 1000 + n * 10 ^ (3 - w) ≤ offsetLimit
+offset-within w m n l h k =
+    let e : w + (3 - w) ≡ 3 = omega arith in
+    let c : 10 ^ w * 10 ^ (3 - w) ≡ 10 ^ 3 = sym (pow-add 10 w (3 - w)) ∙ ap (λ (k : ℕ). 10 ^ k) e in
+    let f = digits-lt k (one-le-pow (3 - w) 10 (omega arith)) in
+    omega arith
+
+pub offset-accept : {w : List ℕ} {at digits : ℕ} {s t : Scan} (v : ℕ) → digits ≤ 3 → Scanned DecimalDigit 10 12 w at s
     → Scanned DecimalDigit 10 12 w (s .end + 1) t → at < s .end → s .end ≤ at + 11 → (at + 1 < s .end → getD w at 0 ≢ 48)
     → getD w (s .end) 0 ≡ 46 → OffsetTail w digits s t → v ≡ s .value * 1000 + t .value * 10 ^ (3 - digits)
     → Takes (OffsetField digits) w at (record { end = t .end; value = v })
-offset-accept {w} {at} {digits} {s} {t} v c d some few z point h e =
+offset-accept {w} {at} {digits} {s} {t} v three c d some few z point h e =
     let l = inside w (t .end) (d .lined) in
     let f = d .from in
     let b : Solid 46 = record { blank = λ q. omega arith; end = λ q. omega arith } in
@@ -276,6 +287,7 @@ offset-accept {w} {at} {digits} {s} {t} v c d some few z point h e =
       short = omega (arith, size c);
       second = record { digits = d .digits; width = omega (arith, length-slice (s .end + 1) (t .end) w (omega arith), h .width) };
       value = e;
+      limit = rw e (offset-within digits (s .value) (t .value) three (scan-within c 11 few) (scan-within d digits (omega (arith, h .width))));
     })
 
 -- The digits behind the point as microseconds.

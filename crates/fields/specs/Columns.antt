@@ -3,6 +3,7 @@ use Prim.Native.Nat.{ℕ, _+_, _*_, _-_, _^_, _≤_}
 use mathlib.Core.Path.{_≡_}
 use mathlib.Core.List.{List, [], _∷_, _++_}
 use lib.ListN.{length}
+use Rattle.base.specs.Limits.{offsetLimit}
 use Rattle.digits.specs.Digits.{Decimal, Padded, Hex}
 
 -- The largest row number.
@@ -17,7 +18,8 @@ pub record NumberField (k : ℕ) (f : List ℕ) : Type 0 where
   pub low : 1 ≤ k
   pub high : k ≤ lastNumber
 
--- Offset in milliseconds, kept as microseconds: 1 to 11 digits, no leading zero unless it is a lone 0, a point, then exactly w digits.
+-- Offset in milliseconds, kept as microseconds: 1 to 11 digits, no leading zero unless it is a lone 0, a point, then exactly w digits; at most
+-- the largest offset.
 pub record OffsetField (w offset : ℕ) (f : List ℕ) : Type 0 where
   pub whole : List ℕ
   pub part : List ℕ
@@ -28,6 +30,7 @@ pub record OffsetField (w offset : ℕ) (f : List ℕ) : Type 0 where
   pub short : length whole ≤ 11
   pub second : Padded w fraction part
   pub value : offset ≡ ms * 1000 + fraction * 10 ^ (3 - w)
+  pub limit : offset ≤ offsetLimit
 
 -- Bus, 1 to 16, no leading zero.
 pub record BusField (bus : ℕ) (f : List ℕ) : Type 0 where

@@ -4,6 +4,7 @@ use mathlib.Core.Path.{_≡_}
 use mathlib.Core.Logic.{_⊎_}
 use mathlib.Core.List.{List}
 use lib.ListN.{take, drop, getD}
+use Rattle.base.specs.Limits.{offsetLimit}
 use Rattle.record.specs.declared.Record.{Record}
 use Rattle.record.specs.Bytes.{bytes}
 
@@ -19,10 +20,6 @@ recordOf fields =
       len = getD fields 5 0;
       «data» = getD fields 6 0;
     }
-
--- The largest offset, in microseconds: eleven digits of milliseconds and three of their fraction.
-abbrev pub offsetLimit : ℕ
-offsetLimit = 99999999999999
 
 -- Data byte i of eight, the first being 0.
 abbrev pub dataByte : Record → ℕ → ℕ

@@ -1,4 +1,5 @@
 // One packed record: its 160 bits as one number in twenty bytes, most significant first.
+use base::OFFSET_LIMIT;
 use base::wide;
 ghost use mathlib.Core.Path.{_≡_};
 ghost use mathlib.Core.Logic.{_⊎_};
@@ -50,9 +51,6 @@ pub fn of_fields(fields: &[u64; 7]) -> Record
         data: fields[6],
     }
 }
-
-// Eleven digits of milliseconds and three of their fraction.
-const OFFSET_LIMIT: u64 = 99_999_999_999_999;
 
 // Whether a number is an error frame's ID.
 pub fn error_id(n: u64) -> bool

@@ -7,11 +7,11 @@ use native.Mathlib.Nat.{pow-suc, pow-succ', one-le-pow, zero-mod, mul-assoc, mul
 use native.Mathlib.Omega.{arith}
 use lib.Arith.{digits-lt}
 use lib.Pow.{pow-add}
-use Rattle.digits.proofs.Theorems.{padded-below, hex-below}
-use Rattle.digits.proofs.Strings.{decimal, within}
-use Rattle.fields.specs.Columns.{OffsetField, IdField, standard, long, lastNumber}
+use Rattle.base.specs.Limits.{offsetLimit}
+use Rattle.digits.proofs.Theorems.{hex-below}
+use Rattle.fields.specs.Columns.{IdField, standard, long, lastNumber}
 use Rattle.record.specs.declared.Record.{Record}
-use Rattle.record.specs.Record.{offsetLimit, ErrorId, one, two, four, eight, WellFormed}
+use Rattle.record.specs.Record.{ErrorId, one, two, four, eight, WellFormed}
 use Rattle.row.specs.Row
 use Rattle.row.specs.Carries.{Carries, v11, v12}
 
@@ -40,15 +40,6 @@ bytes-sum (suc m) (Row.byte {place = place} {n = n} {b = b} {u = u} {sum = sum} 
 id-formed : {extended id : ℕ} {f : List ℕ} → IdField extended id f → (extended ≤ 1) × (extended ≡ 0 → id ≤ 0x7FF) × (id < 2 ^ 29)
 id-formed (standard e h l) = (omega arith, λ z. l, omega arith)
 id-formed (long e h l) = (omega arith, λ z. absurd (omega arith), omega arith)
-
-offset-formed : {w offset : ℕ} {f : List ℕ} → w ≤ 3 → OffsetField w offset f → offset ≤ offsetLimit
-offset-formed {w} l p =
-    let z : 0 < 10 = omega arith in
-    let m : p .ms < 10 ^ 11 = within decimal 11 z (p .first .digits) (p .short) in
-    let e : w + (3 - w) ≡ 3 = omega arith in
-    let c : 10 ^ w * 10 ^ (3 - w) ≡ 10 ^ 3 = sym (pow-add 10 w (3 - w)) ∙ ap (λ (k : ℕ). 10 ^ k) e in
-    let f = digits-lt (padded-below (p .second)) (one-le-pow (3 - w) 10 z) in
-    omega (arith, p .value)
 
 -- The ID of an error frame is small.
 pub error-small : {n : ℕ} → ErrorId n → n ≤ 8
@@ -150,8 +141,8 @@ pub row-formed : {v k : ℕ} {r : Record} {line : List ℕ} → Row.Row v k r li
 row-formed a = go (a .row)
   where
     go : {v k : ℕ} {r : Record} {fs : List (List ℕ)} → Row.RowFields v k r fs → WellFormed r
-    go (Row.number n (Row.one o b h)) = mark-formed (offset-formed (omega arith) o) (omega arith) h
-    go (Row.number n (Row.three o (Row.bus b h))) = mark-formed (offset-formed (omega arith) o) (b .high) h
+    go (Row.number n (Row.one o b h)) = mark-formed (o .limit) (omega arith) h
+    go (Row.number n (Row.three o (Row.bus b h))) = mark-formed (o .limit) (b .high) h
 
 -- Its version can carry it.
 pub row-carried : {v k : ℕ} {r : Record} {line : List ℕ} → Row.Row v k r line → Carries r v

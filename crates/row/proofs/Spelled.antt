@@ -7,6 +7,7 @@ use native.Mathlib.Nat.{sub-zero, pow-suc, pow-succ', one-le-pow, mod-eq-of-lt, 
 use native.Mathlib.Omega.{arith}
 use lib.Arith.{mod-mul}
 use lib.ListN.{length}
+use Rattle.base.specs.Limits.{offsetLimit}
 use Rattle.digits.specs.declared.Letters.the-variants.{Capital}
 use Rattle.digits.specs.Digits.{Hex}
 use Rattle.digits.specs.House.{decimalText, paddedText, hexText}
@@ -15,7 +16,7 @@ use Rattle.digits.proofs.Theorems.{hex-spells}
 use Rattle.fields.specs.Columns.{NumberField, OffsetField, IdField, standard, long, LengthField, lastNumber}
 use Rattle.fields.proofs.Runs.{all-map}
 use Rattle.record.specs.declared.Record.{Record}
-use Rattle.record.specs.Record.{offsetLimit, WellFormed}
+use Rattle.record.specs.Record.{WellFormed}
 use Rattle.row.specs.Row
 use Rattle.row.specs.Carries.{Carries, v11, v12}
 use Rattle.row.specs.House.{numberText, markText, idText, byteTexts, dataTexts, rowTexts, rowText}
@@ -68,6 +69,7 @@ offset-spelled w offset fraction l h e q = record {
   short = few 10 (offset / 1000) (omega arith);
   second = padded-spells w fraction h;
   value = e;
+  limit = l;
 }
 
 id-spelled : (x id : ℕ) → x ≤ 1 → (x ≡ 0 → id ≤ 0x7FF) → id < 2 ^ 29 → IdField x id (hexText Capital (4 + 4 * x) id)

@@ -8,6 +8,7 @@ use native.Mathlib.Omega.{arith}
 use borrow.Author.Tests.{eq-eqb, ne-eqb}
 use lib.Dec.{leb, leb→le}
 use lib.ListN.{length, getD, length-append}
+use Rattle.base.specs.Limits.{offsetLimit}
 use Rattle.base.proofs.Tables.{both, both-left, both-right, at}
 use Rattle.digits.specs.declared.Letters.the-variants.{Capital}
 use Rattle.digits.specs.House.{decimalText, paddedText, hexText, glyphOf, figureOf}
@@ -17,7 +18,7 @@ use Rattle.fields.specs.Runs.{All, over, halt}
 use Rattle.fields.specs.Parted.{NoBlank, Parted, none, blank}
 use Rattle.fields.proofs.Parts.{first}
 use Rattle.record.specs.declared.Record.{Record}
-use Rattle.record.specs.Record.{offsetLimit, WellFormed}
+use Rattle.record.specs.Record.{WellFormed}
 use Rattle.row.specs.House.{joined, numberText, offsetText, busTexts, marks, markText, idText, byteTexts, dataTexts, fractionDigits, rowTexts}
 use Rattle.row.specs.Carries.{Carries, v11, v12}
 use Rattle.row.proofs.Fields.{Each, no-more, then}

@@ -5,8 +5,9 @@ use mathlib.Core.Logic.{_≢_, inr, ⊎-elim}
 use mathlib.Core.List.{List, [], _∷_, _++_}
 use native.Mathlib.Omega.{arith}
 use lib.ListN.{length}
+use Rattle.base.specs.Limits.{offsetLimit}
 use Rattle.record.specs.declared.Record.{Record}
-use Rattle.record.specs.Record.{offsetLimit, WellFormed}
+use Rattle.record.specs.Record.{WellFormed}
 use Rattle.fields.specs.Runs.{empty}
 use Rattle.row.specs.Row.{Row}
 use Rattle.row.specs.Carries.{Carries, v12}

@@ -39,7 +39,7 @@ accepted : (c : tie.After-decimal2) (v : ℕ) → OffsetTail (start (whole c) .a
     → Takes (OffsetField (start (whole c) .args .digits)) (start (whole c) .args .w .now) (start (whole c) .args .at) (record { end = c .decimal2 .result .end; value = v })
 accepted c v h e =
     let f = whole c .decimal .ensures .from in
-    offset-accept v (whole c .decimal .ensures) (c .decimal2 .ensures) (omega arith) (omega arith)
+    offset-accept v (three (start (whole c))) (whole c .decimal .ensures) (c .decimal2 .ensures) (omega arith) (omega arith)
     (λ l z. ⊎-elim (λ q. omega arith) (λ q. q .left z) (c .before .before .before .if3 .came)) (c .before .if5 .left) h e
 
 tail : (c : tie.Else7) → OffsetTail (c .before .before .before .before .before .before .before .before .before .before .before .before .before .args .w .now) (c .before .before .before .before .before .before .before .before .before .before .before .before .before .args .digits) (c .before .before .before .before .before .before .before .before .before .before .before .decimal .result) (c .before .before .before .before .decimal2 .result)

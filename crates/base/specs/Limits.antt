@@ -1,0 +1,6 @@
+-- Limits that more than one layer has.
+use Prim.Native.Nat.{ℕ}
+
+-- The largest offset, in microseconds: eleven digits of milliseconds and three of their fraction.
+abbrev pub offsetLimit : ℕ
+offsetLimit = 99999999999999
