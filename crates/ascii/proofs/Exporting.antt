@@ -12,14 +12,14 @@ use Rattle.clock.proofs.Stamps.{one-stamp}
 use Rattle.record.specs.declared.Record.{Record}
 use Rattle.record.specs.Record.{WellFormed}
 use Rattle.trace.specs.House.{Each, none as wellNone, more as wellMore}
-use Rattle.ascii_line.specs.Line.{lineText}
 use Rattle.ascii_line.proofs.Texts.{line-length, extended-length, standard-length, short-channel}
-use Rattle.ascii.specs.Promise.{Exports, none, line, left, isFrame, lineCount, leftCount}
+use Rattle.ascii.proofs.Channels.{channel-most}
+use Rattle.ascii.specs.Promise.{channelOf, lineOf, Exports, none, line, left, isFrame, lineCount, leftCount}
 
 -- The records export to one text.
 pub exports-one : {start : ℕ} {rs : List Record} {t u : List ℕ} → Exports start rs t → Exports start rs u → t ≡ u
 exports-one none none = refl
-exports-one (line {r = r} k s e) (line j z f) = ap₂ (λ (x : DateTime) (y : List ℕ). lineText x r ++ y) (one-stamp s z) (exports-one e f)
+exports-one (line {r = r} k s e) (line j z f) = ap₂ (λ (x : DateTime) (y : List ℕ). lineOf x r ++ y) (one-stamp s z) (exports-one e f)
 exports-one (line k s e) (left j f) = absurd (omega arith)
 exports-one (left k e) (line j z f) = absurd (omega arith)
 exports-one (left k e) (left j f) = exports-one e f
@@ -28,13 +28,13 @@ exports-one (left k e) (left j f) = exports-one e f
 pub exports-append : {start : ℕ} {rs qs : List Record} {t u : List ℕ} → Exports start rs t → Exports start qs u
     → Exports start (rs ++ qs) (t ++ u)
 exports-append none g = g
-exports-append {u = u} (line {r = r} {s = s} {text = t} k z e) g = rw (append-assoc (lineText s r) t u) (line k z (exports-append e g))
+exports-append {u = u} (line {r = r} {s = s} {text = t} k z e) g = rw (append-assoc (lineOf s r) t u) (line k z (exports-append e g))
 exports-append (left k e) g = left k (exports-append e g)
 
 -- The line of one record, or nothing.
-pub exports-line : {start : ℕ} {r : Record} {s : DateTime} → r .kind ≤ 1 → Stamp start (r .offset) s → Exports start (r ∷ []) (lineText s r)
+pub exports-line : {start : ℕ} {r : Record} {s : DateTime} → r .kind ≤ 1 → Stamp start (r .offset) s → Exports start (r ∷ []) (lineOf s r)
 exports-line {start} {r} {s} k z =
-    let e : Exports start (r ∷ []) (lineText s r ++ []) = line k z none in
+    let e : Exports start (r ∷ []) (lineOf s r ++ []) = line k z none in
     rw append-nil at e
 
 pub exports-left : {start : ℕ} {r : Record} → 1 < r .kind → Exports start (r ∷ []) []
@@ -42,8 +42,8 @@ exports-left k = left k none
 
 -- The first record's line, and the rest.
 pub first-line : {start : ℕ} {r : Record} {rs : List Record} {t : List ℕ} {s : DateTime} → r .kind ≤ 1 → Stamp start (r .offset) s
-    → Exports start (r ∷ rs) t → (u : List ℕ) × (t ≡ lineText s r ++ u) × Exports start rs u
-first-line {r = r} k z (line {text = u} j y e) = (u, ap (λ (x : DateTime). lineText x r ++ u) (one-stamp y z), e)
+    → Exports start (r ∷ rs) t → (u : List ℕ) × (t ≡ lineOf s r ++ u) × Exports start rs u
+first-line {r = r} k z (line {text = u} j y e) = (u, ap (λ (x : DateTime). lineOf x r ++ u) (one-stamp y z), e)
 first-line k z (left j e) = absurd (omega arith)
 
 pub first-left : {start : ℕ} {r : Record} {rs : List Record} {t : List ℕ} → 1 < r .kind → Exports start (r ∷ rs) t → Exports start rs t
@@ -88,18 +88,18 @@ counts-sum [] = refl
 counts-sum (r ∷ rs) = omega (arith, counts-sum rs, frame-most r)
 
 -- A line has at most 86 bytes,
-line-most : (s : DateTime) (r : Record) → WellFormed r → length (lineText s r) ≤ 86
-line-most s r w = go (ℕ-discrete (r .extended) 1)
-  where
-    go : Dec (r .extended ≡ 1) → length (lineText s r) ≤ 86
-    go (yes e) = omega (arith, line-length s r, extended-length r refl e, short-channel {bus = r .bus} refl (w .bus), w .len)
-    go (no f) =
-        let z : r .extended ≡ 0 = omega (arith, w .extended, f) in
-        omega (arith, line-length s r, standard-length r refl z, short-channel {bus = r .bus} refl (w .bus), w .len)
+line-most : (s : DateTime) (r : Record) → WellFormed r → length (lineOf s r) ≤ 86
+line-most s r w =
+    let n = channelOf (r .bus) in
+    let c = short-channel n (channel-most (r .bus) (w .bus)) in
+    elim (ℕ-discrete (r .extended) 1) [
+      | yes e ↦ omega (arith, line-length s n r, extended-length n r e, w .len)
+      | no f ↦ let z : r .extended ≡ 0 = omega (arith, w .extended, f) in omega (arith, line-length s n r, standard-length n r z, w .len)
+    ]
 
 -- and so has each record's.
 pub export-most : {start : ℕ} {rs : List Record} {text : List ℕ} → Each WellFormed rs → Exports start rs text → length text ≤ 86 * length rs
 export-most wellNone none = omega arith
 export-most (wellMore {r = r} w ws) (line {s = s} {text = t} k z e) =
-    omega (arith, length-append (lineText s r) t, line-most s r w, export-most ws e)
+    omega (arith, length-append (lineOf s r) t, line-most s r w, export-most ws e)
 export-most (wellMore w ws) (left k e) = omega (arith, export-most ws e)

@@ -1,3 +1,4 @@
+pub mod Channels
 pub mod Exporting
 pub mod Measuring
 pub mod Keeping

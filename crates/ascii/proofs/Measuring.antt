@@ -7,10 +7,9 @@ use lib.ListN.{length, take, drop, length-append}
 use Rattle.clock.proofs.Stamps.{some-stamp}
 use Rattle.record.specs.declared.Record.{Record}
 use Rattle.record.specs.Record.{Packs}
-use Rattle.ascii_line.specs.Line.{lineText}
 use Rattle.trace_writer.proofs.Through.{Through, through, through-more, all-through}
 use Rattle.ascii.specs.declared.Measured.the-variants as answer
-use Rattle.ascii.specs.Promise.{none, isFrame, lineCount}
+use Rattle.ascii.specs.Promise.{lineOf, none, isFrame, lineCount}
 use Rattle.ascii.specs.Passes.{LineBytes, line, left, Sized, Measures}
 use Rattle.ascii.proofs.Exporting.{exports-append, exports-line, exports-left, count-none, count-snoc, counts-sum}
 
@@ -36,7 +35,7 @@ module _ {s : List ℕ} {at k bytes lines : ℕ} (m : Measuring s at k bytes lin
     sized-more (line k e) start =
         let x = m .sized start in
         let z = some-stamp start (r .offset) in
-        let t = lineText (z .0) r in
+        let t = lineOf (z .0) r in
         (x .0 ++ t, exports-append (x .1) (exports-line k (z .1)), omega (arith, x .2, e (z .0), length-append (x .0) t))
     sized-more (left k e) start =
         let x = m .sized start in

@@ -10,9 +10,8 @@ use Rattle.clock.specs.declared.DateTime.{DateTime}
 use Rattle.clock.specs.Stamp.{Stamp}
 use Rattle.record.specs.declared.Record.{Record}
 use Rattle.record.specs.Record.{Packs}
-use Rattle.ascii_line.specs.Line.{lineText}
 use Rattle.trace_writer.proofs.Ahead.{Ahead, ahead, later, after-next, ahead-more, all-behind}
-use Rattle.ascii.specs.Promise.{Exports, none}
+use Rattle.ascii.specs.Promise.{lineOf, Exports, none}
 use Rattle.ascii.specs.Passes.{LinePut, line, left, Fits, LinesPut}
 use Rattle.ascii.proofs.Exporting.{exports-one, exports-append, exports-line, exports-left, first-line, first-left}
 
@@ -43,10 +42,10 @@ module _ {start : ℕ} {s old out : List ℕ} {at p : ℕ} (f : Putting start s 
   next = rw (after-next (f .records) h b) at (f .to-come)
 
   -- There is room for the next line, if there is one.
-  pub next-room : r .kind ≤ 1 → p + length (lineText z r) ≤ length out
+  pub next-room : r .kind ≤ 1 → p + length (lineOf z r) ≤ length out
   next-room k =
       let x = first-line k y next in
-      omega (arith, f .room, f .same, ap length (x .1), length-append (lineText z r) (x .0))
+      omega (arith, f .room, f .same, ap length (x .1), length-append (lineOf z r) (x .0))
 
   -- It is put.
   pub put-more : {new : List ℕ} {e : ℕ} → LinePut out new p e z r → length new ≡ length old → Putting start s old new (at + 20) e
@@ -54,12 +53,12 @@ module _ {start : ℕ} {s old out : List ℕ} {at p : ℕ} (f : Putting start s 
       let x = first-line k y next in
       record {
         records = ahead-more (f .records) h b;
-        done = f .done ++ lineText z r;
+        done = f .done ++ lineOf z r;
         so-far = exports-append (f .so-far) (exports-line k y);
         wrote = then (f .wrote) w;
         text = x .0;
         to-come = x .2;
-        room = omega (arith, f .room, w .next, ap length (x .1), length-append (lineText z r) (x .0));
+        room = omega (arith, f .room, w .next, ap length (x .1), length-append (lineOf z r) (x .0));
         same = l;
       }
   put-more {new} {e} (left k d n) l = record {

@@ -7,12 +7,11 @@ use Rattle.base.specs.Wrote.{Wrote}
 use Rattle.clock.specs.declared.DateTime.{DateTime}
 use Rattle.clock.specs.Stamp.{Stamp, ticks}
 use Rattle.record.specs.declared.Record.{Record}
-use Rattle.ascii_line.specs.Line.{lineText}
 use Rattle.ascii_line.specs.Parts.{secondText}
 use Rattle.trace_writer.specs.Promise.{Holds, FirstMalformed}
 use Rattle.ascii.specs.declared.Measured.{Measured}
 use Rattle.ascii.specs.declared.Measured.the-variants as measured
-use Rattle.ascii.specs.Promise.{Exports, lineCount, leftCount}
+use Rattle.ascii.specs.Promise.{lineOf, Exports, lineCount, leftCount}
 
 -- How many times 100 microseconds a start and an offset are, cut down.
 unfoldable pub ticksOf : ℕ → ℕ → ℕ
@@ -24,12 +23,12 @@ pub record Shows (head : List ℕ) (second : ℕ) : Type 0 where
 
 -- How many bytes the line of a record is, with any stamp, or 0 if it is left out.
 pub data LineBytes (r : Record) (n : ℕ) : Type 0 where
-  line : r .kind ≤ 1 → ((s : DateTime) → n ≡ length (lineText s r)) → LineBytes r n
+  line : r .kind ≤ 1 → ((s : DateTime) → n ≡ length (lineOf s r)) → LineBytes r n
   left : 1 < r .kind → n ≡ 0 → LineBytes r n
 
 -- The line of a record with this stamp was put, or nothing if it is left out.
 pub data LinePut (before after : List ℕ) (at next : ℕ) (s : DateTime) (r : Record) : Type 0 where
-  line : r .kind ≤ 1 → Wrote before after at next (lineText s r) → LinePut before after at next s r
+  line : r .kind ≤ 1 → Wrote before after at next (lineOf s r) → LinePut before after at next s r
   left : 1 < r .kind → after ≡ before → next ≡ at → LinePut before after at next s r
 
 -- Some text with this many bytes is what the records export to, whatever the start.

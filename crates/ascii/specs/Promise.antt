@@ -3,7 +3,7 @@ use Prim.Native.Nat.{ℕ, _+_, _-_, _≤_, _<_}
 use mathlib.Core.Path.{_≡_}
 use mathlib.Core.Bool.{cond}
 use mathlib.Core.List.{List, [], _∷_, _++_}
-use lib.Dec.{ltb}
+use lib.Dec.{eqb, ltb}
 use lib.ListN.{length, drop}
 use Rattle.clock.specs.declared.DateTime.{DateTime}
 use Rattle.clock.specs.Start.{startLimit}
@@ -24,11 +24,19 @@ pub data Numbered : Exported → Type 0 where
   is-done : {bytes lines left : ℕ} → Numbered (exported.Done bytes lines left)
   is-refused : {n p : ℕ} → 0 < n → Numbered (exported.Refused n p)
 
+-- Bus 0 is written as channel 1, every other bus as the channel of its number.
+unfoldable pub channelOf : ℕ → ℕ
+channelOf bus = cond (eqb bus 0) 1 bus
+
+-- The line of a record with this stamp, on the channel of its bus.
+abbrev pub lineOf : DateTime → Record → List ℕ
+lineOf s r = lineText s (channelOf (r .bus)) r
+
 -- The lines of the records of kinds 0 and 1, in order, each with the stamp of its offset; the others are left out.
 pub data Exports (start : ℕ) : List Record → List ℕ → Type 0 where
   none : Exports start [] []
   line : {r : Record} {rs : List Record} {s : DateTime} {text : List ℕ} → r .kind ≤ 1 → Stamp start (r .offset) s → Exports start rs text
-      → Exports start (r ∷ rs) (lineText s r ++ text)
+      → Exports start (r ∷ rs) (lineOf s r ++ text)
   left : {r : Record} {rs : List Record} {text : List ℕ} → 1 < r .kind → Exports start rs text → Exports start (r ∷ rs) text
 
 -- 1 for a record of kind 0 or 1, and 0 for any other.

@@ -18,10 +18,9 @@ ghost use Rattle.clock.specs.declared.DateTime.{DateTime as AnyStamp};
 ghost use Rattle.digits.specs.House.{PairsOf};
 ghost use Rattle.digits.specs.declared.Letters.the-variants.{Small};
 ghost use Rattle.record.specs.Record.{WellFormed};
-ghost use Rattle.ascii_line.specs.Line.{lineText};
 ghost use Rattle.ascii_line.specs.Parts.{Begins};
 ghost use Rattle.trace_writer.specs.Promise.{Whole};
-ghost use Rattle.ascii.specs.Promise.{isFrame, exportNumbers, Numbered, ExportPromise};
+ghost use Rattle.ascii.specs.Promise.{channelOf, lineOf, isFrame, exportNumbers, Numbered, ExportPromise};
 ghost use Rattle.ascii.specs.Passes.{ticksOf, Shows, LineBytes, LinePut, Measures, Fits, LinesPut};
 
 // The answer of `export`.
@@ -59,6 +58,16 @@ fn frame(r: Record) -> u64
     1
 }
 
+// Bus 0 is written as channel 1.
+fn channel(bus: u64) -> u64
+    ensures { λ n. ⌜ n ≡ channelOf bus ⌝ }
+{
+    if bus == 0 {
+        return 1;
+    }
+    bus
+}
+
 // How many bytes the line of a record is, or 0 if it is left out.
 fn line_bytes(r: Record) -> usize
     requires { ⌜ WellFormed r ⌝ }
@@ -67,7 +76,7 @@ fn line_bytes(r: Record) -> usize
     if frame(r) == 0 {
         return 0;
     }
-    line_length(r)
+    line_length(channel(r.bus), r)
 }
 
 // The first pass: every record is judged, and the lines are measured and counted.
@@ -132,14 +141,14 @@ fn put_export(
     r: Record,
     pairs: &[u8; 512],
 ) -> usize
-    requires { ⌜ WellFormed r × ((s : AnyStamp) × (r .kind ≤ 1 → at + length (lineText s r) ≤ length (now out))) × PairsOf Small (now pairs) ⌝ }
+    requires { ⌜ WellFormed r × ((s : AnyStamp) × (r .kind ≤ 1 → at + length (lineOf s r) ≤ length (now out))) × PairsOf Small (now pairs) ⌝ }
     ensures { λ e. ⌜ ((s : AnyStamp) → Begins (now (second .entry)) part s → LinePut (now (out .entry)) (now (out .exit)) at e s r) ⌝ }
 {
     let given = frame(r);
     if given == 0 {
         return at;
     }
-    put_line(out, at, second, part, r, pairs)
+    put_line(out, at, second, part, channel(r.bus), r, pairs)
 }
 
 // The second pass: the lines are put into the output, which has room for them. No record is judged any more. The bytes of a

@@ -19,7 +19,7 @@ use Rattle.row.specs.House.{byteTexts}
 use Rattle.row_writer.specs.Parts.{spaced}
 use Rattle.row_writer.proofs.Rows.{spaced-none, spaced-more, spaced-append}
 use Rattle.row_writer.proofs.Bytes.{length-bytes}
-use Rattle.ascii_line.specs.Line.{dateText, timeText, stampText, typeText, channelOf, extendedTexts, directionText, idText, partTexts, lineText}
+use Rattle.ascii_line.specs.Line.{dateText, timeText, stampText, typeText, extendedTexts, directionText, idText, partTexts, lineText}
 use Rattle.ascii_line.specs.Parts.{clockText, secondText, sourceText, barText, wayText, dataText, restText, frameText}
 
 pub date : (d : CalendarDay) → dateText d ≡ paddedText 2 (d .day) ++ (46 ∷ (paddedText 2 (d .month) ++ (46 ∷ paddedText 4 (d .year))))
@@ -48,14 +48,6 @@ stamp-cut s = rw (second, clock, time) (simp append-assoc)
 pub same-second : (s u : DateTime) → s .date ≡ u .date → s .time .hour ≡ u .time .hour → s .time .minute ≡ u .time .minute
     → s .time .second ≡ u .time .second → secondText s ≡ secondText u
 same-second s u d h m e = rw (second s, second u, clock (s .time), clock (u .time), d, h, m, e)
-
-pub first-channel : (bus : ℕ) → bus ≡ 0 → channelOf bus ≡ 1
-unfolding channelOf
-first-channel bus e = rw (eq-eqb bus 0 e)
-
-pub own-channel : (bus : ℕ) → (bus ≡ 0 → ⊥) → channelOf bus ≡ bus
-unfolding channelOf
-own-channel bus f = rw (ne-eqb bus 0 f)
 
 pub extended-source : (x : ℕ) → x ≡ 1 → sourceText x ≡ 32 ∷ 67 ∷ 65 ∷ 78 ∷ 69 ∷ 120 ∷ 116 ∷ 32 ∷ 35 ∷ []
 unfolding typeText
@@ -110,14 +102,14 @@ data-more r = rw (spaced-more, spaced-more)
 regroup : (t h n w i d e : List ℕ) → (t ++ ((h ++ n) ++ (w ++ (i ++ d)))) ++ e ≡ (t ++ h) ++ (n ++ (w ++ (i ++ (d ++ e))))
 regroup t h n w i d e = simp append-assoc
 
-frame-cut : (r : Record) → spaced (partTexts r) ++ (13 ∷ 10 ∷ []) ≡ frameText r
-frame-cut r =
+frame-cut : (n : ℕ) (r : Record) → spaced (partTexts n r) ++ (13 ∷ 10 ∷ []) ≡ frameText n r
+frame-cut n r =
     rw (spaced-more, spaced-more, way-more, data-more)
-    (regroup (32 ∷ typeText (r .extended)) (32 ∷ 35 ∷ []) (decimalText (channelOf (r .bus))) (wayText (r .extended) (r .kind)) (32 ∷ idText r) (dataText r) (13 ∷ 10 ∷ []))
+    (regroup (32 ∷ typeText (r .extended)) (32 ∷ 35 ∷ []) (decimalText n) (wayText (r .extended) (r .kind)) (32 ∷ idText r) (dataText r) (13 ∷ 10 ∷ []))
 
-pub line-cut : (s : DateTime) (r : Record) → lineText s r ≡ secondText s ++ (paddedText 4 (s .time .part) ++ frameText r)
+pub line-cut : (s : DateTime) (n : ℕ) (r : Record) → lineText s n r ≡ secondText s ++ (paddedText 4 (s .time .part) ++ frameText n r)
 unfolding lineText
-line-cut s r = rw (frame-cut, stamp-cut, append-assoc)
+line-cut s n r = rw (frame-cut, stamp-cut, append-assoc)
 
 -- How long the pieces are.
 
@@ -153,29 +145,25 @@ length-standard-id r e = rw (standard-id r e, length-fixed)
 pub length-data : (r : Record) → length (dataText r) ≡ 2 + 3 * r .len
 length-data r = omega (arith, length-bytes Small (256 ^ 7) (r .len) (r .«data»))
 
-pub line-length : (s : DateTime) (r : Record) → length (lineText s r) ≡ length (frameText r) + 24
-line-length s r =
+pub line-length : (s : DateTime) (n : ℕ) (r : Record) → length (lineText s n r) ≡ length (frameText n r) + 24
+line-length s n r =
     rw (line-cut, length-append, length-append, length-second, length-fixed) (omega arith)
-
--- In these n is the channel, as the writer has computed it.
 
 pub rest-length : (r : Record) → length (restText r) ≡ length (32 ∷ idText r) + length (dataText r) + 2
 rest-length r = simp length-append (omega arith)
 
-pub frame-length : {n : ℕ} (r : Record) → n ≡ channelOf (r .bus)
-    → length (frameText r) ≡ length (sourceText (r .extended)) + length (decimalText n) + length (wayText (r .extended) (r .kind)) + length (32 ∷ idText r) + length (dataText r) + 2
-frame-length r e = rw e (simp length-append (omega arith))
+pub frame-length : (n : ℕ) (r : Record)
+    → length (frameText n r) ≡ length (sourceText (r .extended)) + length (decimalText n) + length (wayText (r .extended) (r .kind)) + length (32 ∷ idText r) + length (dataText r) + 2
+frame-length n r = simp length-append (omega arith)
 
-pub extended-length : {n : ℕ} (r : Record) → n ≡ channelOf (r .bus) → r .extended ≡ 1 → length (frameText r) ≡ length (decimalText n) + 3 * r .len + 36
-extended-length r e h =
-    omega (arith, frame-length r e, ap length (extended-source (r .extended) h), length-way (r .extended) (r .kind), ap length (extended-bar (r .extended) h), length-extended-id r h, length-data r)
+pub extended-length : (n : ℕ) (r : Record) → r .extended ≡ 1 → length (frameText n r) ≡ length (decimalText n) + 3 * r .len + 36
+extended-length n r h =
+    omega (arith, frame-length n r, ap length (extended-source (r .extended) h), length-way (r .extended) (r .kind), ap length (extended-bar (r .extended) h), length-extended-id r h, length-data r)
 
-pub standard-length : {n : ℕ} (r : Record) → n ≡ channelOf (r .bus) → r .extended ≡ 0 → length (frameText r) ≡ length (decimalText n) + 3 * r .len + 19
-standard-length r e h =
+pub standard-length : (n : ℕ) (r : Record) → r .extended ≡ 0 → length (frameText n r) ≡ length (decimalText n) + 3 * r .len + 19
+standard-length n r h =
     let f : r .extended ≡ 1 → ⊥ = λ k. omega arith in
-    omega (arith, frame-length r e, ap length (standard-source (r .extended) f), length-way (r .extended) (r .kind), ap length (standard-bar (r .extended) f), length-standard-id r h, length-data r)
+    omega (arith, frame-length n r, ap length (standard-source (r .extended) f), length-way (r .extended) (r .kind), ap length (standard-bar (r .extended) f), length-standard-id r h, length-data r)
 
-pub short-channel : {n bus : ℕ} → n ≡ channelOf bus → bus ≤ 16 → length (decimalText n) ≤ 2
-short-channel {n} {bus} e h =
-    let k : channelOf bus ≤ 16 = elim (ℕ-discrete bus 0) [ yes z ↦ omega (arith, first-channel bus z) | no f ↦ omega (arith, own-channel bus f) ] in
-    few 1 n (omega arith)
+pub short-channel : (n : ℕ) → n ≤ 16 → length (decimalText n) ≤ 2
+short-channel n h = few 1 n (omega arith)

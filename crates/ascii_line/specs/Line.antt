@@ -1,4 +1,4 @@
--- The line of one record in Telemotive ASCII: the stamp, then each part behind one blank, then CR LF.
+-- The line of one record in Telemotive ASCII: the stamp, then each part behind one blank, then CR LF. Whoever prints the line says which channel it has.
 use Prim.Native.Nat.{ℕ, _+_, _*_, _^_}
 use mathlib.Core.Bool.{cond}
 use mathlib.Core.List.{List, [], _∷_, _++_}
@@ -28,13 +28,9 @@ stampText s = dateText (s .date) ++ (32 ∷ timeText (s .time))
 unfoldable pub typeText : ℕ → List ℕ
 typeText extended = cond (eqb extended 1) (67 ∷ 65 ∷ 78 ∷ 69 ∷ 120 ∷ 116 ∷ []) (67 ∷ 65 ∷ 78 ∷ [])
 
--- Bus 0 is written as channel 1.
-unfoldable pub channelOf : ℕ → ℕ
-channelOf bus = cond (eqb bus 0) 1 bus
-
 -- `#` and the channel.
 abbrev pub channelText : ℕ → List ℕ
-channelText bus = 35 ∷ decimalText (channelOf bus)
+channelText channel = 35 ∷ decimalText channel
 
 -- `EXTENDED` before the direction, for an extended ID.
 unfoldable pub extendedTexts : ℕ → List (List ℕ)
@@ -49,10 +45,10 @@ unfoldable pub idText : Record → List ℕ
 idText r = hexText Small (3 + 5 * r .extended) (r .id)
 
 -- What stands behind the stamp.
-abbrev pub partTexts : Record → List (List ℕ)
-partTexts r =
-    typeText (r .extended) ∷ channelText (r .bus) ∷ (124 ∷ [])
+abbrev pub partTexts : ℕ → Record → List (List ℕ)
+partTexts channel r =
+    typeText (r .extended) ∷ channelText channel ∷ (124 ∷ [])
     ∷ (extendedTexts (r .extended) ++ (directionText (r .kind) ∷ idText r ∷ ((48 + r .len) ∷ []) ∷ byteTexts Small (256 ^ 7) (r .len) (r .«data»)))
 
-unfoldable pub lineText : DateTime → Record → List ℕ
-lineText s r = stampText s ++ (spaced (partTexts r) ++ (13 ∷ 10 ∷ []))
+unfoldable pub lineText : DateTime → ℕ → Record → List ℕ
+lineText s channel r = stampText s ++ (spaced (partTexts channel r) ++ (13 ∷ 10 ∷ []))

@@ -9,7 +9,7 @@ use Rattle.clock.specs.declared.DateTime.{DateTime}
 use Rattle.record.specs.declared.Record.{Record}
 use Rattle.row.specs.House.{byteTexts}
 use Rattle.row_writer.specs.Parts.{spaced}
-use Rattle.ascii_line.specs.Line.{dateText, typeText, channelOf, extendedTexts, directionText, idText}
+use Rattle.ascii_line.specs.Line.{dateText, typeText, extendedTexts, directionText, idText}
 
 -- `hh:mm:ss.`
 unfoldable pub clockText : DayTime → List ℕ
@@ -45,5 +45,5 @@ abbrev pub restText : Record → List ℕ
 restText r = (32 ∷ idText r) ++ (dataText r ++ (13 ∷ 10 ∷ []))
 
 -- What stands behind the stamp, and CR LF.
-abbrev pub frameText : Record → List ℕ
-frameText r = sourceText (r .extended) ++ (decimalText (channelOf (r .bus)) ++ (wayText (r .extended) (r .kind) ++ restText r))
+abbrev pub frameText : ℕ → Record → List ℕ
+frameText channel r = sourceText (r .extended) ++ (decimalText channel ++ (wayText (r .extended) (r .kind) ++ restText r))

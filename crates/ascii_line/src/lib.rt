@@ -19,7 +19,7 @@ ghost use Rattle.base.specs.Wrote.{Wrote};
 ghost use Rattle.digits.specs.House.{PairsOf};
 ghost use Rattle.digits.specs.declared.Letters.the-variants.{Small};
 ghost use Rattle.clock.specs.declared.DateTime.{DateTime as AnyStamp};
-ghost use Rattle.ascii_line.specs.Line.{dateText, channelOf, idText, lineText};
+ghost use Rattle.ascii_line.specs.Line.{dateText, idText, lineText};
 ghost use Rattle.ascii_line.specs.Parts.{clockText, secondText, Begins, sourceText, barText, wayText, dataText, restText, frameText};
 
 // `dd.mm.yyyy`
@@ -59,16 +59,6 @@ pub fn put_second(out: &mut [u8; 20], s: DateTime)
     let p = put_date(slots, 0, date);
     let q = put_byte(slots, p, 32);
     put_clock(slots, q, time);
-}
-
-// Bus 0 is written as channel 1.
-fn channel(bus: u64) -> u64
-    ensures { λ r. ⌜ r ≡ channelOf bus ⌝ }
-{
-    if bus == 0 {
-        return 1;
-    }
-    bus
 }
 
 // `CAN` or `CANExt`, and the `#` of the channel.
@@ -137,22 +127,22 @@ fn put_rest(out: &mut [u8], at: usize, r: Record, pairs: &[u8; 512]) -> usize
 }
 
 // What stands behind the stamp, and CR LF.
-fn put_frame(out: &mut [u8], at: usize, r: Record, pairs: &[u8; 512]) -> usize
-    requires { ⌜ (r .extended ≤ 1) × (r .kind ≤ 1) × (r .len ≤ 8) × (at + length (frameText r) ≤ length (now out)) × PairsOf Small (now pairs) ⌝ }
-    ensures { λ e. ⌜ Wrote (now (out .entry)) (now (out .exit)) at e (frameText r) ⌝ }
+fn put_frame(out: &mut [u8], at: usize, channel: u64, r: Record, pairs: &[u8; 512]) -> usize
+    requires { ⌜ (r .extended ≤ 1) × (r .kind ≤ 1) × (r .len ≤ 8) × (at + length (frameText channel r) ≤ length (now out)) × PairsOf Small (now pairs) ⌝ }
+    ensures { λ e. ⌜ Wrote (now (out .entry)) (now (out .exit)) at e (frameText channel r) ⌝ }
 {
     let p = put_source(out, at, r.extended);
-    let q = put_decimal(out, p, channel(r.bus));
+    let q = put_decimal(out, p, channel);
     let s = put_way(out, q, r.extended, r.kind);
     put_rest(out, s, r, pairs)
 }
 
-// How many bytes the line of a record is, whatever its stamp.
-pub fn line_length(r: Record) -> usize
-    requires { ⌜ (r .extended ≤ 1) × (r .bus ≤ 16) × (r .len ≤ 8) ⌝ }
-    ensures { λ n. ⌜ ((s : AnyStamp) → n ≡ length (lineText s r)) × (n ≤ 86) ⌝ }
+// How many bytes the line of a record on a channel is, whatever its stamp.
+pub fn line_length(channel: u64, r: Record) -> usize
+    requires { ⌜ (r .extended ≤ 1) × (channel ≤ 16) × (r .len ≤ 8) ⌝ }
+    ensures { λ n. ⌜ ((s : AnyStamp) → n ≡ length (lineText s channel r)) × (n ≤ 86) ⌝ }
 {
-    let number = decimal_length(channel(r.bus));
+    let number = decimal_length(channel);
     let bytes = 3 * r.len as usize;
     if r.extended == 1 {
         return number + bytes + 60;
@@ -160,20 +150,21 @@ pub fn line_length(r: Record) -> usize
     number + bytes + 43
 }
 
-// Puts the line of a record at a position, and gives the position after it. Of the stamp it takes the bytes up to the point, and the part; `pairs`
+// Puts the line of a record on a channel at a position, and gives the position after it. Of the stamp it takes the bytes up to the point, and the part; `pairs`
 // has the two digits of each byte.
 pub fn put_line(
     out: &mut [u8],
     at: usize,
     second: &[u8; 20],
     part: u64,
+    channel: u64,
     r: Record,
     pairs: &[u8; 512],
 ) -> usize
-    requires { ⌜ (r .extended ≤ 1) × (r .kind ≤ 1) × (r .len ≤ 8) × ((s : AnyStamp) × (at + length (lineText s r) ≤ length (now out))) × PairsOf Small (now pairs) ⌝ }
-    ensures { λ e. ⌜ ((s : AnyStamp) → Begins (now (second .entry)) part s → Wrote (now (out .entry)) (now (out .exit)) at e (lineText s r)) ⌝ }
+    requires { ⌜ (r .extended ≤ 1) × (r .kind ≤ 1) × (r .len ≤ 8) × ((s : AnyStamp) × (at + length (lineText s channel r) ≤ length (now out))) × PairsOf Small (now pairs) ⌝ }
+    ensures { λ e. ⌜ ((s : AnyStamp) → Begins (now (second .entry)) part s → Wrote (now (out .entry)) (now (out .exit)) at e (lineText s channel r)) ⌝ }
 {
     let p = put_text(out, at, second);
     let q = put_padded(out, p, 4, part);
-    put_frame(out, q, r, pairs)
+    put_frame(out, q, channel, r, pairs)
 }

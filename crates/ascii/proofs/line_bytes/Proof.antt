@@ -3,6 +3,7 @@ use mathlib.Core.Path.{refl}
 use native.Mathlib.Omega.{arith}
 use borrow.Author.Needs.{needs}
 use Rattle.ascii.specs.Passes.{line, left}
+use Rattle.ascii.proofs.Channels.{channel-most}
 use Rattle.ascii.proofs.Exporting.{is-left, is-line}
 use Rattle.ascii.proofs.line_bytes.Statement.{statement}
 use Rattle.ascii.proofs.line_bytes.Tie as tie
@@ -12,5 +13,11 @@ line-bytes-spec =
     tie.close (tie.spec
     (λ c κs. search needs)
     (λ c. (left (is-left (c .before .before .args .r) (c .before .frame .ensures .0) (c .if1 .taken)) refl, omega arith))
-    (λ c κs. let w = c .before .before .pre in (w .extended, w .bus, w .len))
-    (λ c. (line (is-line (c .before .before .before .args .r) (c .before .before .frame .ensures .0) (c .before .if1 .left)) (c .line-length .ensures .0), c .line-length .ensures .1)))
+    (λ c κs. search needs)
+    (λ c κs.
+    let w = c .before .before .before .pre in
+    (w .extended, omega (arith, c .channel .ensures, channel-most (c .before .before .before .args .r .bus) (w .bus)), w .len))
+    (λ c.
+    let n = c .before .channel .ensures in
+    let l = c .line-length .ensures in
+    (line (is-line (c .before .before .before .before .args .r) (c .before .before .before .frame .ensures .0) (c .before .before .if1 .left)) (rw n at (l .0)), l .1)))

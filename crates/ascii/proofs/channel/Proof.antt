@@ -1,8 +1,8 @@
--- `ascii_line::channel` meets its contract.
+-- `ascii::channel` meets its contract.
 use mathlib.Core.Path.{sym}
-use Rattle.ascii_line.proofs.Texts.{first-channel, own-channel}
-use Rattle.ascii_line.proofs.channel.Statement.{statement}
-use Rattle.ascii_line.proofs.channel.Tie as tie
+use Rattle.ascii.proofs.Channels.{first-channel, own-channel}
+use Rattle.ascii.proofs.channel.Statement.{statement}
+use Rattle.ascii.proofs.channel.Tie as tie
 
 pub channel-spec : {M : Type 1} → statement M
 channel-spec =
