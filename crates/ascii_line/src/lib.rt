@@ -137,6 +137,12 @@ fn put_frame(out: &mut [u8], at: usize, channel: u64, r: Record, pairs: &[u8; 51
     put_rest(out, s, r, pairs)
 }
 
+// The bytes of a line beside channel and data bytes: the stamp, ` CAN #`, ` | `, `Rx`, a blank and the ID, a blank and the length, CR LF.
+const STANDARD_LINE: usize = 24 + 6 + 3 + 2 + 4 + 2 + 2;
+
+// The same with ` CANExt #` and ` | EXTENDED `, and eight digits of the ID.
+const EXTENDED_LINE: usize = 24 + 9 + 12 + 2 + 9 + 2 + 2;
+
 // How many bytes the line of a record on a channel is, whatever its stamp.
 pub fn line_length(channel: u64, r: Record) -> usize
     requires { ⌜ (r .extended ≤ 1) × (channel ≤ 16) × (r .len ≤ 8) ⌝ }
@@ -145,9 +151,9 @@ pub fn line_length(channel: u64, r: Record) -> usize
     let number = decimal_length(channel);
     let bytes = 3 * r.len as usize;
     if r.extended == 1 {
-        return number + bytes + 60;
+        return number + bytes + EXTENDED_LINE;
     }
-    number + bytes + 43
+    number + bytes + STANDARD_LINE
 }
 
 // Puts the line of a record on a channel at a position, and gives the position after it. Of the stamp it takes the bytes up to the point, and the part; `pairs`

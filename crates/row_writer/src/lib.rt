@@ -15,6 +15,7 @@ ghost use Rattle.base.specs.Wrote.{Wrote};
 ghost use Rattle.digits.specs.declared.Letters.{Letters};
 ghost use Rattle.digits.specs.declared.Letters.the-variants.{Capital};
 ghost use Rattle.digits.specs.House.{decimalText, hexText, PairsOf};
+ghost use Rattle.fields.specs.Columns.{lastNumber};
 ghost use Rattle.record.specs.Record.{WellFormed};
 ghost use Rattle.row.specs.Carries.{Carries};
 ghost use Rattle.row.specs.House.{joined, numberText, offsetText, busTexts, markText, idText, byteTexts, dataTexts, rowText};
@@ -229,7 +230,7 @@ fn put_frame(out: &mut [u8], at: usize, r: Record, pairs: &[u8; 512]) -> usize
 
 // How many bytes the row with number k and record r in a version is.
 pub fn row_length(version: u64, k: u64, r: Record) -> usize
-    requires { ⌜ WellFormed r × Carries r version × (1 ≤ k) × (k ≤ 999999) ⌝ }
+    requires { ⌜ WellFormed r × Carries r version × (1 ≤ k) × (k ≤ lastNumber) ⌝ }
     ensures { λ n. ⌜ n ≡ length (rowText version k r) ⌝ }
 {
     let head = number_length(k) + offset_length(version, r.offset) + bus_length(version, r.bus);
@@ -249,7 +250,7 @@ pub fn put_row(
     seconds: &[u8],
     pairs: &[u8; 512],
 ) -> usize
-    requires { ⌜ WellFormed r × Carries r version × (1 ≤ k) × (k ≤ 999999) ⌝ }
+    requires { ⌜ WellFormed r × Carries r version × (1 ≤ k) × (k ≤ lastNumber) ⌝ }
     requires { ⌜ at + length (rowText version k r) ≤ length (now out) ⌝ }
     requires { ⌜ now tens ≡ decimalText (k / 10) ⌝ }
     requires { ⌜ now seconds ≡ decimalText (r .offset / 1000 / 1000) ⌝ }

@@ -21,7 +21,7 @@ use Rattle.trace_writer.proofs.Through.{Through, through, through-more,
 
 pub record Measuring (version : ℕ) (s : List ℕ) (at k bytes first : ℕ) : Type 0 where
   pub judged : Through s at k
-  pub bounded : bytes ≤ 66 * k
+  pub bounded : bytes ≤ 69 * k
   pub fits : first ≡ 0 → Carried version (judged .records) × (bytes ≡ length (rowsText version 1 (judged .records)))
   pub unfit : first ≢ 0 → FirstMisfit version (judged .records) first
 
@@ -78,7 +78,7 @@ module _ {version : ℕ} {s : List ℕ} {at k bytes first : ℕ} (m : Measuring 
               at = a .kept f ∙ u .at;
             }
 
-    pub measured-more : RowBytes version (k + 1) r n × (n ≤ 66) → Measuring version s (at + 20) (k + 1) (bytes + n) new
+    pub measured-more : RowBytes version (k + 1) r n × (n ≤ 69) → Measuring version s (at + 20) (k + 1) (bytes + n) new
     measured-more b = record {
       judged = through-more (m .judged) h p;
       bounded = omega (arith, m .bounded, b .1);

@@ -78,11 +78,14 @@ fn put_start_line(out: &mut [u8], at: usize, start: u64) -> usize
     put_end(out, t)
 }
 
+// The bytes of lines 1 and 2 beside the digits of the day: `;$FILEVERSION=1.`, a digit, CR LF; `;$STARTTIME=`, the point, ten digits, CR LF.
+const HEAD: usize = 16 + 1 + 2 + 12 + 1 + 10 + 2;
+
 // How many bytes lines 1 and 2 are.
 fn head_length(version: u64, start: u64) -> usize
     ensures { λ r. ⌜ (r ≡ length (headText version start)) × (r ≤ 64) ⌝ }
 {
-    decimal_length(start / 86400000) + 44
+    decimal_length(start / 86400000) + HEAD
 }
 
 // The record at a place.
@@ -123,7 +126,7 @@ fn carries(r: Record, version: u64) -> bool
 // How many bytes a row with its end is, or 0 if the version can't carry it.
 fn row_bytes(version: u64, k: u64, r: Record) -> usize
     requires { ⌜ WellFormed r × (1 ≤ k) × (k ≤ lastNumber) ⌝ }
-    ensures { λ n. ⌜ RowBytes version k r n × (n ≤ 66) ⌝ }
+    ensures { λ n. ⌜ RowBytes version k r n × (n ≤ 69) ⌝ }
 {
     if !carries(r, version) {
         return 0;

@@ -6,7 +6,7 @@ use borrow.Author.Needs.{needs}
 use Rattle.base.proofs.Tests.{shown-not, refuted-not}
 use lib.ListN.{length-append}
 use Rattle.row.specs.House.{rowText}
-use Rattle.row_writer.proofs.Longest.{longest}
+use Rattle.row.proofs.Spelled.{row-size}
 use Rattle.trace_writer.specs.Passes.{carried, misfit}
 use Rattle.trace_writer.proofs.row_bytes.Statement.{statement}
 use Rattle.trace_writer.proofs.row_bytes.Tie as tie
@@ -19,11 +19,12 @@ row-bytes-spec =
     (λ c κs. let p = c .before .before .pre in (p .0, shown-not (c .before .carries .result) (c .before .carries .ensures) (c .if1 .left), p .1, p .2))
     (λ c.
     let s = c .before .before .before in
-    let a = s .args in
-    omega (arith, longest (a .version) (a .k) (a .r) (s .pre .0) (s .pre .2)))
+    let y = shown-not (c .before .before .carries .result) (c .before .before .carries .ensures) (c .before .if1 .left) in
+    omega (arith, row-size {k = s .args .k} (s .pre .0) y (s .pre .2)))
     (λ c.
     let s = c .before .before .before in
     let a = s .args in
-    let l = longest (a .version) (a .k) (a .r) (s .pre .0) (s .pre .2) in
+    let y = shown-not (c .before .before .carries .result) (c .before .before .carries .ensures) (c .before .if1 .left) in
+    let l = row-size {k = a .k} (s .pre .0) y (s .pre .2) in
     let e = length-append (rowText (a .version) (a .k) (a .r)) (13 ∷ 10 ∷ []) in
-    (carried (shown-not (c .before .before .carries .result) (c .before .before .carries .ensures) (c .before .if1 .left)) (omega (arith, c .row-length .ensures)), omega arith)))
+    (carried y (omega (arith, c .row-length .ensures)), omega arith)))
