@@ -15,11 +15,14 @@ pub enum Printed {
     Short,
 }
 
+// The bytes of the line of a refusal beside its two numbers: `refused `, ` at line `, CR LF.
+const REFUSAL: usize = 8 + 9 + 2;
+
 // Puts the line of a refusal at the start of the page, if there is room for it.
 fn put_refusal(page: &mut [u8], number: u64, place: u64) -> Printed
     ensures { λ r. ⌜ Put (refusalText number place) (now (page .entry)) r (now (page .exit)) ⌝ }
 {
-    let size = decimal_length(number) + decimal_length(place) + 19;
+    let size = decimal_length(number) + decimal_length(place) + REFUSAL;
     if page.len() < size {
         return Printed::Short;
     }
