@@ -1,16 +1,15 @@
 #!/usr/bin/env python3
 """The output that convert_run must give: reads the cases in src/main.rt, and exports or refuses each input by paper 01."""
 import re, sys
-from shared import line, script
-
-trace = script('trace_run')
+import traces
+from shared import line
 
 def refused(number, place): return b'refused %d at line %d\r\n' % (number, place)
 
 def prints(text, records):
     """what is to be printed, or None where the trace is good and its records have no room"""
     if len(text) > 65_536: return refused(1, 0)
-    (number, place, _, start, _, _), rows = trace.read(text, records)
+    (number, place, _, start, _, _), rows = traces.read(text, records)
     if number == 8: return None
     if number: return refused(number, place)
     return ''.join(line(start, *r) for r in rows if r[2] in (0, 1)).encode()

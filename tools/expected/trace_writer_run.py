@@ -2,9 +2,10 @@
 """The output that trace_writer_run must give: follows the calls in src/main.rt, and writes or refuses each trace by paper 01's "Writing" and "Numbers given back"."""
 import sys
 from fractions import Fraction
+import traces
 from shared import follower, script
 
-record, row_writer, trace = script('record_run'), script('row_writer_run'), script('trace_run')
+record, row_writer = script('record_run'), script('row_writer_run')
 
 def carried(version, offset, bus): return bus == 0 and offset % 100 == 0 if version == 11 else 1 <= bus <= 16
 
@@ -31,9 +32,9 @@ def part(version, start, s, first, end, room):
     number, place, text = write(version, start, s, room)
     say(b'version %d start %d bytes %d room %d gives %d %d %d ' % (version, start, len(s), room, number, place, len(text)))
     if number: return say(b'untouched\n')
-    (number, place, version, start, count, _), rows = trace.read(text, 240)
+    (number, place, version, start, count, _), rows = traces.read(text, 240)
     assert number == 0, 'paper 01: what is written can be read'
-    same = b'same' if b''.join(map(trace.bits, rows)) == s else b'other'
+    same = b'same' if b''.join(map(traces.bits, rows)) == s else b'other'
     say(b'accepted\n' + text.ljust(room, b'.') + b'\nback %d %d %d %s\n' % (version, start, count, same))
 
 def put(s, k, *f):

@@ -1,0 +1,145 @@
+// Cases of packing and unpacking one record.
+use libc::STDOUT_FILENO;
+use record::Packed;
+use record::Record;
+use record::Unpacked;
+use testing::byte;
+use testing::bytes;
+use testing::front;
+use testing::number;
+use testing::numbers;
+use testing::rest;
+ghost use Prim.Native.Nat.{_+_, _≤_};
+ghost use lib.ListN.{length};
+
+// The words `pack` and `unpack`, in their letters.
+const PACK: u64 = 0x7061636B;
+
+const UNPACK: u64 = 0x756E7061636B;
+
+// Offset, bus, kind, extended, ID, length and data (in hexadecimal).
+pub(crate) fn fields(r: Record) {
+    number(r.offset);
+    number(r.bus);
+    number(r.kind);
+    number(r.extended);
+    number(r.id);
+    number(r.len);
+    byte(b' ');
+    io::print_hex(STDOUT_FILENO, r.data, 16);
+}
+
+// Number and place of a refusal, and whether the output is untouched.
+pub(crate) fn refused(n: u64, place: u64, out: &[u8]) {
+    number(n);
+    number(place);
+    rest(out, 0);
+}
+
+// The seven fields that begin some numbers.
+fn record_of(a: [u64; 9]) -> Record {
+    Record {
+        offset: a[0],
+        bus: a[1],
+        kind: a[2],
+        extended: a[3],
+        id: a[4],
+        len: a[5],
+        data: a[6],
+    }
+}
+
+fn packed(a: Packed, out: &[u8; 24]) {
+    let all: &[u8] = out;
+    match a {
+        Packed::Done => {
+            number(0);
+            number(0);
+            bytes(&all[0..20]);
+            rest(all, 20);
+        }
+        Packed::Malformed => refused(23, 1, all),
+        Packed::Short => refused(25, 0, all),
+    }
+}
+
+// Packs a record into an output of `room` bytes.
+fn pack(r: Record, room: usize) {
+    let mut out = [238u8; 24];
+    if room <= 24 {
+        let a = record::pack(r, &mut out[0..room]);
+        packed(a, &out);
+    }
+}
+
+// Puts the `count` bytes of n at a position.
+fn put_word(out: &mut [u8], at: usize, count: usize, n: u64)
+    requires { ⌜ at + count ≤ length (now out) ⌝ }
+{
+    let mut rest = n;
+    let mut i = count;
+    while 0 < i {
+        i -= 1;
+        out[at + i] = (rest % 256) as u8;
+        rest /= 256;
+    }
+}
+
+// Puts the bits of a record, well formed or not, and six spare bits. What does not fit its bits is cut off.
+pub(crate) fn put_bits(out: &mut [u8], at: usize, r: Record, spare: u64)
+    requires { ⌜ at + 20 ≤ length (now out) ⌝ }
+{
+    let first = r.offset / 65536 % 4294967296;
+    let a = (r.offset % 65536 * 32 + r.bus % 32) * 8 + r.kind % 8;
+    let b = (a * 2 + r.extended % 2) * 536870912 + r.id % 536870912;
+    let middle = (b * 16 + r.len % 16) * 64 + r.data / 288230376151711744 % 64;
+    let last = r.data % 288230376151711744 * 64 + spare % 64;
+    let p = at + 4;
+    let q = at + 12;
+    put_word(out, at, 4, first);
+    put_word(out, p, 8, middle);
+    put_word(out, q, 8, last);
+}
+
+fn unpacked(s: &[u8]) {
+    bytes(s);
+    let u = record::unpack(s);
+    match u {
+        Unpacked::Fields(r) => {
+            number(0);
+            number(0);
+            fields(r);
+        }
+        Unpacked::NotTwenty => {
+            number(20);
+            number(0);
+        }
+        Unpacked::Malformed => {
+            number(23);
+            number(1);
+        }
+    }
+}
+
+// Unpacks the first bytes of a record's bits and what follows them.
+fn unpack(a: [u64; 9]) {
+    let mut s = [238u8; 40];
+    put_bits(&mut s, 0, record_of(a), a[7]);
+    unpacked(front(&s, a[8] as usize));
+}
+
+// Tries a case of one record, if the word is one.
+pub(crate) fn tried(word: u64, line: &[u8]) -> bool {
+    let a = numbers(line);
+    match word {
+        PACK => {
+            pack(record_of(a), a[7] as usize);
+            true
+        }
+        UNPACK => {
+            unpack(a);
+            true
+        }
+        _ => false,
+    }
+}
