@@ -15,13 +15,6 @@ def script(name):
     sys.argv = argv
     return module
 
-def cases(path):
-    """the lines of a program's stdin that are cases, without their escapes"""
-    meant = {'r': '\r', 'n': '\n', 't': '\t', '\\': '\\', '': ''}
-    escape = re.compile(r'\\(?:x(..)|(.?))')
-    for line in open(path, encoding='ascii').read().split('\n'):
-        if line and not line.startswith('//'): yield escape.sub(lambda m: chr(int(m[1], 16)) if m[1] else meant[m[2]], line).encode('latin1')
-
 def value(x, names):
     """of a number, a name, a text or a small sum"""
     return eval(re.sub(r'&(mut )?| as u64|(?<=\d)u8', '', x), {}, names)
