@@ -6,8 +6,8 @@ use mathlib.Core.List.{List, _++_}
 use native.Mathlib.Omega.{arith}
 use lib.ListN.{length, drop}
 use Rattle.record.specs.declared.Record.{Record}
-use Rattle.trace_writer.specs.Promise.{Holds}
-use Rattle.trace_writer.proofs.Records.{holds-one, malformed-one, none-malformed}
+use Rattle.records.specs.Records.{Holds}
+use Rattle.records.proofs.Records.{holds-one, malformed-one, none-malformed}
 use Rattle.ascii.specs.declared.Exported.{Exported}
 use Rattle.ascii.specs.declared.Exported.the-variants as exported
 use Rattle.ascii.specs.Promise.{exportNumbers, Numbered, is-done, is-refused, lineCount, leftCount, Stopped, no-records, late, malformed, Given, ExportPromise, refused, no-room, done}

@@ -11,7 +11,7 @@ use Rattle.clock.specs.Stamp.{Stamp}
 use Rattle.clock.proofs.Stamps.{one-stamp}
 use Rattle.record.specs.declared.Record.{Record}
 use Rattle.record.specs.Record.{WellFormed}
-use Rattle.trace.specs.House.{Each, none as wellNone, more as wellMore}
+use Rattle.records.specs.Records.{Each, none as wellNone, more as wellMore}
 use Rattle.ascii_line.proofs.Texts.{line-length, extended-length, standard-length, short-channel}
 use Rattle.ascii.proofs.Channels.{channel-most}
 use Rattle.ascii.specs.Promise.{channelOf, lineOf, Exports, none, line, left, isFrame, lineCount, leftCount}

@@ -7,7 +7,7 @@ use lib.ListN.{length, take, drop, length-append}
 use Rattle.clock.proofs.Stamps.{some-stamp}
 use Rattle.record.specs.declared.Record.{Record}
 use Rattle.record.specs.Record.{Packs}
-use Rattle.trace_writer.proofs.Through.{Through, through, through-more, all-through}
+use Rattle.records.proofs.Through.{Through, through, through-more, all-through}
 use Rattle.ascii.specs.declared.Measured.the-variants as answer
 use Rattle.ascii.specs.Promise.{lineOf, none, isFrame, lineCount}
 use Rattle.ascii.specs.Passes.{LineBytes, line, left, Sized, Measures}

@@ -10,7 +10,7 @@ use Rattle.clock.specs.declared.DateTime.{DateTime}
 use Rattle.clock.specs.Stamp.{Stamp}
 use Rattle.record.specs.declared.Record.{Record}
 use Rattle.record.specs.Record.{Packs}
-use Rattle.trace_writer.proofs.Ahead.{Ahead, ahead, later, after-next, ahead-more, all-behind}
+use Rattle.records.proofs.Ahead.{Ahead, ahead, later, after-next, ahead-more, all-behind}
 use Rattle.ascii.specs.Promise.{lineOf, Exports, none}
 use Rattle.ascii.specs.Passes.{LinePut, line, left, Fits, LinesPut}
 use Rattle.ascii.proofs.Exporting.{exports-one, exports-append, exports-line, exports-left, first-line, first-left}

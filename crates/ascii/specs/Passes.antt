@@ -7,8 +7,8 @@ use Rattle.base.specs.Wrote.{Wrote}
 use Rattle.clock.specs.declared.DateTime.{DateTime}
 use Rattle.clock.specs.Stamp.{Stamp, ticks}
 use Rattle.record.specs.declared.Record.{Record}
+use Rattle.records.specs.Records.{Holds, FirstMalformed}
 use Rattle.ascii_line.specs.Parts.{secondText}
-use Rattle.trace_writer.specs.Promise.{Holds, FirstMalformed}
 use Rattle.ascii.specs.declared.Measured.{Measured}
 use Rattle.ascii.specs.declared.Measured.the-variants as measured
 use Rattle.ascii.specs.Promise.{lineOf, Exports, lineCount, leftCount}

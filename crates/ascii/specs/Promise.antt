@@ -9,8 +9,8 @@ use Rattle.clock.specs.declared.DateTime.{DateTime}
 use Rattle.clock.specs.Start.{startLimit}
 use Rattle.clock.specs.Stamp.{Stamp}
 use Rattle.record.specs.declared.Record.{Record}
+use Rattle.records.specs.Records.{Whole, Holds, FirstMalformed}
 use Rattle.ascii_line.specs.Line.{lineText}
-use Rattle.trace_writer.specs.Promise.{Whole, Holds, FirstMalformed}
 use Rattle.ascii.specs.declared.Exported.{Exported}
 use Rattle.ascii.specs.declared.Exported.the-variants as exported
 

@@ -8,8 +8,9 @@ use digits::Letters;
 use digits::pairs;
 use record::Record;
 use record::packed_at;
-use trace_writer::Entry;
-use trace_writer::record_at;
+use records::Entry;
+use records::record_at;
+use records::whole;
 ghost use mathlib.Core.Path.{_≡_};
 ghost use Prim.Native.Nat.{_+_, _/_, _≤_, _<_, _^_};
 ghost use lib.ListN.{length};
@@ -18,8 +19,8 @@ ghost use Rattle.clock.specs.declared.DateTime.{DateTime as AnyStamp};
 ghost use Rattle.digits.specs.House.{PairsOf};
 ghost use Rattle.digits.specs.declared.Letters.the-variants.{Small};
 ghost use Rattle.record.specs.Record.{WellFormed};
+ghost use Rattle.records.specs.Records.{Whole};
 ghost use Rattle.ascii_line.specs.Parts.{Begins};
-ghost use Rattle.trace_writer.specs.Promise.{Whole};
 ghost use Rattle.ascii.specs.Promise.{channelOf, lineOf, isFrame, exportNumbers, Numbered, ExportPromise};
 ghost use Rattle.ascii.specs.Passes.{ticksOf, Shows, LineBytes, LinePut, Measures, Fits, LinesPut};
 
@@ -209,13 +210,7 @@ pub fn export(start: u64, records: &[u8], out: &mut [u8]) -> Exported
     ensures { λ e. ⌜ ExportPromise start (now (records .entry)) (now (out .entry)) (exportNumbers e) (now (out .exit)) ⌝ }
     ensures { λ e. ⌜ Numbered e ⌝ }
 {
-    if records.len() % 20 != 0 {
-        return Exported::Refused {
-            number: 20,
-            place: 0,
-        };
-    }
-    if 19_999_980 < records.len() {
+    if !whole(records) {
         return Exported::Refused {
             number: 20,
             place: 0,

@@ -6,15 +6,15 @@ use mathlib.Core.List.{List}
 use native.Mathlib.Omega.{arith}
 use lib.ListN.{length, take}
 use Rattle.record.specs.declared.Record.{Record}
+use Rattle.records.specs.Records.{Holds}
+use Rattle.records.proofs.Packing.{packed-length}
+use Rattle.records.proofs.Records.{holds-one, none-malformed}
 use Rattle.trace.specs.declared.Outcome.the-variants as outcome
-use Rattle.trace.specs.Trace.{Trace, Spells}
+use Rattle.trace.specs.Trace.{Trace, Spells, traceOf}
 use Rattle.trace.specs.Promise.{readNumbers, ReadPromise, Refused}
 use Rattle.trace.specs.House.{Version, Writable}
 use Rattle.trace.proofs.Answers.{not-refused, refused-numbers}
-use Rattle.trace.proofs.Packing.{packed-length}
 use Rattle.trace.proofs.There.{read-writable}
-use Rattle.trace_writer.specs.Promise.{Holds, traceOf}
-use Rattle.trace_writer.proofs.Records.{holds-one, none-malformed}
 use Rattle.trace_writer.proofs.Again.{Read, read-done}
 use Rattle.ascii.specs.declared.Exported.the-variants as exported
 use Rattle.ascii.specs.Promise.{exportNumbers, Numbered, is-refused, Exports, ExportPromise}

@@ -8,23 +8,25 @@ use lib.ListN.{length}
 use Rattle.base.specs.Limits.{offsetLimit}
 use Rattle.record.specs.declared.Record.{Record}
 use Rattle.record.specs.Record.{WellFormed}
+use Rattle.records.specs.Records.{none, more, Holds}
+use Rattle.records.specs.StepBack.{backFrom, stepBack}
+use Rattle.records.proofs.Records.{holds-one}
 use Rattle.fields.specs.Runs.{empty}
 use Rattle.row.specs.Row.{Row}
 use Rattle.row.specs.Carries.{Carries, v12}
 use Rattle.row.proofs.Plain.{row-some}
 use Rattle.lines.specs.Lines.{one}
 use Rattle.lines.proofs.Theorems.{version-line-text, version-line-inside, startLine, start-line-text, start-line-inside}
-use Rattle.trace.specs.Trace.{Trace, Spells, over}
-use Rattle.trace.specs.Promise.{backFrom, stepBack, ReadPromise}
-use Rattle.trace.specs.House.{traceText, none, more, Writable}
+use Rattle.trace.specs.Trace.{Trace, Spells, over, traceOf}
+use Rattle.trace.specs.Promise.{ReadPromise}
+use Rattle.trace.specs.House.{traceText, Writable}
 use Rattle.trace.proofs.Answers.{one-read, accepts, accepted}
 use Rattle.trace.proofs.Cuts.{endedLine, first-alone, lines-alone, lines-append}
 use Rattle.trace.proofs.Fails.{Fails, later, at-later, no-row, fails-refused}
 use Rattle.trace.proofs.One.{one-trace}
 use Rattle.trace.proofs.There.{there, there-size}
-use Rattle.trace_writer.specs.Promise.{traceOf, Holds, WritePromise}
+use Rattle.trace_writer.specs.Promise.{WritePromise}
 use Rattle.trace_writer.proofs.Answers as writing
-use Rattle.trace_writer.proofs.Records.{holds-one}
 use Rattle.ascii.specs.Promise.{lineCount, ExportPromise}
 use Rattle.ascii.proofs.Answers as exporting
 

@@ -5,8 +5,8 @@ use mathlib.Core.Logic.{⊎-elim}
 use mathlib.Core.List.{List, [], _∷_}
 use native.Mathlib.Omega.{arith}
 use Rattle.record.specs.declared.Record.{Record}
-use Rattle.trace_writer.specs.Promise.{Holds}
-use Rattle.trace_writer.proofs.Records.{holds-one}
+use Rattle.records.specs.Records.{Holds}
+use Rattle.records.proofs.Records.{holds-one}
 use Rattle.ascii.specs.Promise.{lineCount, leftCount, Stopped, ExportPromise}
 use Rattle.ascii.proofs.Exporting.{frame-line, frame-left}
 use Rattle.tightness.specs.Programs.{Exporter, Exports}

@@ -9,14 +9,14 @@ use Rattle.record.specs.declared.Record.{Record}
 use Rattle.record.specs.Bytes.{bytes}
 use Rattle.record.specs.Record.{number}
 use Rattle.record.proofs.OneRecord.{packs, one-record}
+use Rattle.records.specs.Records.{packed}
+use Rattle.records.proofs.Packing.{packed-length, first-packed, rest-packed}
 use Rattle.trace.specs.Trace.{sizeLimit, Trace, Spells}
-use Rattle.trace.specs.Promise.{packed, ReadPromise}
+use Rattle.trace.specs.Promise.{ReadPromise}
 use Rattle.trace.proofs.Answers as answers
 use Rattle.trace.proofs.Answers.{not-refused}
 use Rattle.trace.proofs.One.{one-trace}
-use Rattle.trace.proofs.Packing.{packed-length}
 use Rattle.trace.proofs.There.{there, there-size}
-use Rattle.trace_writer.proofs.Lists.{first-packed, rest-packed}
 use Rattle.tightness.specs.Programs.{Bytes, Reader, Reads}
 use Rattle.tightness.specs.Wrong.{RefusesAll, SameVersion, SameStart, SameRecords, CopiesFirst, InventsRows}
 use Rattle.tightness.specs.Tight.{HandsOut, received, Tried, empty, later, older, two, copied}

@@ -7,12 +7,14 @@ use native.Mathlib.Omega.{arith}
 use lib.ListN.{length, drop}
 use Rattle.clock.proofs.Stamps.{some-stamp}
 use Rattle.record.specs.declared.Record.{Record}
+use Rattle.records.specs.Records.{packed, Whole}
+use Rattle.records.specs.StepBack.{stepBack}
+use Rattle.records.proofs.Packing.{packed-length}
 use Rattle.trace.specs.Trace.{Trace}
-use Rattle.trace.specs.Promise.{packed, stepBack, ReadPromise}
+use Rattle.trace.specs.Promise.{ReadPromise}
 use Rattle.trace.specs.House.{traceText, Writable}
 use Rattle.trace.proofs.There.{there, there-size}
-use Rattle.trace.proofs.Packing.{packed-length}
-use Rattle.trace_writer.specs.Promise.{Whole, WritePromise}
+use Rattle.trace_writer.specs.Promise.{WritePromise}
 use Rattle.ascii.specs.Promise.{Exports, none, line, left, lineCount, leftCount, ExportPromise}
 use Rattle.ascii.proofs.Exporting.{export-most}
 use Rattle.tightness.specs.Tight.{Tried, Real}

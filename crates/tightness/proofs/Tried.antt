@@ -13,13 +13,12 @@ use Rattle.record.specs.declared.Record.{Record}
 use Rattle.record.specs.Bytes.{bytes}
 use Rattle.record.specs.Record.{WellFormed, number}
 use Rattle.record.proofs.Bytes.{byte-below}
+use Rattle.records.specs.Records.{packed, none, more}
 use Rattle.row.specs.Carries.{Carries, v12}
 use Rattle.row.specs.House.{joined, numberText, offsetText, busTexts, markText, idText, byteTexts, dataTexts, rowTexts}
-use Rattle.trace.specs.Trace.{Trace, AreBytes}
-use Rattle.trace.specs.Promise.{packed}
-use Rattle.trace.specs.House.{versionLineText, dayFraction, startLineText, rowsText, traceText, Version, none, more, Writable}
+use Rattle.trace.specs.Trace.{Trace, AreBytes, traceOf}
+use Rattle.trace.specs.House.{versionLineText, dayFraction, startLineText, rowsText, traceText, Version, Writable}
 use Rattle.trace.proofs.Beginnings.{tested, are-bytes}
-use Rattle.trace_writer.specs.Promise.{traceOf}
 use Rattle.tightness.specs.Programs.{Bytes}
 use Rattle.tightness.specs.Tight.{received, Tried, empty, later, older, two, copied}
 

@@ -6,14 +6,15 @@ use native.Mathlib.Omega.{arith}
 use lib.ListN.{length, getD, take, drop, length-replicate}
 use lib.Seq.{take-at}
 use Rattle.record.specs.declared.Record.{Record}
-use Rattle.trace.specs.Trace.{Trace}
+use Rattle.records.specs.Records.{packed}
+use Rattle.records.proofs.Packing.{packed-length}
+use Rattle.trace.specs.Trace.{Trace, traceOf}
 use Rattle.trace.specs.House.{traceText}
-use Rattle.trace.specs.Promise.{packed, ReadPromise}
+use Rattle.trace.specs.Promise.{ReadPromise}
 use Rattle.trace.proofs.HouseTexts.{trace-text, version-line}
-use Rattle.trace.proofs.Packing.{packed-length}
 use Rattle.trace.proofs.There.{one-house}
 use Rattle.trace_writer.specs.declared.Written.the-variants as answer
-use Rattle.trace_writer.specs.Promise.{writeNumbers, Stopped, traceOf, WritePromise}
+use Rattle.trace_writer.specs.Promise.{writeNumbers, Stopped, WritePromise}
 use Rattle.trace_writer.proofs.Answers.{writes}
 use Rattle.trace_writer.proofs.Again.{back}
 use Rattle.tightness.specs.Programs.{Bytes, FromReader, FromWriter, Reader, six, Reads, Writer, Writes, written}

@@ -4,9 +4,10 @@ use mathlib.Core.Path.{_≡_}
 use mathlib.Core.List.{List, [], _∷_}
 use lib.ListN.{length}
 use Rattle.record.specs.declared.Record.{Record}
-use Rattle.trace.specs.Trace.{sizeLimit, Trace, Spells}
-use Rattle.trace.specs.Promise.{packed, ReadPromise}
-use Rattle.trace_writer.specs.Promise.{traceOf, WritePromise}
+use Rattle.records.specs.Records.{packed}
+use Rattle.trace.specs.Trace.{sizeLimit, Trace, Spells, traceOf}
+use Rattle.trace.specs.Promise.{ReadPromise}
+use Rattle.trace_writer.specs.Promise.{WritePromise}
 use Rattle.ascii.specs.Promise.{ExportPromise}
 use Rattle.tightness.specs.Programs.{Bytes, FromReader, Reader, six, Reads, handedOut, FromWriter, Writer, three, Writes, written, FromExporter, Exporter, five, Exports}
 use Rattle.tightness.specs.Wrong.{RefusesAll, RefusesWritten, SameVersion, SameStart, SameRecords, SameAlways, DoesNothing, CopiesFirst, WritesFirst, InventsRows, InventsLeftOut, Touched}

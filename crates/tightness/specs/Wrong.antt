@@ -5,9 +5,8 @@ use mathlib.Core.Logic.{_≢_, _⊎_}
 use mathlib.Core.List.{List, [], _∷_}
 use lib.ListN.{length, getD, drop, replicate}
 use Rattle.record.specs.declared.Record.{Record}
+use Rattle.records.specs.Records.{packed, Holds}
 use Rattle.trace.specs.Trace.{Trace, Spells}
-use Rattle.trace.specs.Promise.{packed}
-use Rattle.trace_writer.specs.Promise.{Holds}
 use Rattle.tightness.specs.Programs.{Bytes, FromReader, Reader, handedOut, recordAt, Writer, written, Exporter}
 
 -- 1. "A reader that refuses everything": its number is never 0;

@@ -6,13 +6,15 @@ use mathlib.Core.List.{List, [], _∷_, _++_, append-assoc, append-nil}
 use native.Mathlib.Decide.{decLt}
 use native.Mathlib.Omega.{arith}
 use lib.ListN.{length, drop, length-append}
+use Rattle.records.specs.Records.{packed}
+use Rattle.records.specs.StepBack.{stepBack}
 use Rattle.row_reader.specs.Answer.{lineLimit}
 use Rattle.lines.specs.Lines.{FirstLine, DollarLine}
 use Rattle.trace.specs.declared.Outcome.{Outcome}
 use Rattle.trace.specs.declared.Outcome.the-variants as outcome
 use Rattle.trace.specs.Trace.{sizeLimit, Trace, Line, Spells, Begins}
 use Rattle.trace.specs.Promise
-use Rattle.trace.specs.Promise.{packed, stepBack, readNumbers, Lines, none, line, Reached, Barred, Refused, ReadPromise, large, done, no-room, refused}
+use Rattle.trace.specs.Promise.{readNumbers, Lines, none, line, Reached, Barred, Refused, ReadPromise, large, done, no-room, refused}
 use Rattle.lines.proofs.Theorems.{first-one, version-known}
 use Rattle.trace.proofs.Apart.{no-line}
 use Rattle.trace.proofs.One.{one-trace}

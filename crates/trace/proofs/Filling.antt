@@ -11,21 +11,23 @@ use Rattle.record.specs.declared.Record.{Record}
 use Rattle.record.specs.Bytes.{bytes}
 use Rattle.record.specs.Record.{number, WellFormed}
 use Rattle.record.proofs.Bytes.{length-bytes}
+use Rattle.records.specs.Records.{packed}
+use Rattle.records.specs.StepBack.{stepBack, BackAfter}
+use Rattle.records.proofs.Packing.{packed-more, packed-length}
+use Rattle.records.proofs.StepBack.{lastOffset, last-more, back-keep, back-found, back-none}
 use Rattle.row.specs.Row.{Row}
 use Rattle.row.proofs.Formed.{row-formed}
 use Rattle.row.proofs.One.{row-one}
 use Rattle.row.proofs.Plain.{row-starts, row-some}
 use Rattle.lines.specs.Lines.{FirstLine, Comment}
 use Rattle.trace.specs.Trace.{Trace, Line, Body, over, comment, row, Spells}
-use Rattle.trace.specs.Promise.{packed, stepBack}
-use Rattle.trace.specs.Passes.{There, Bars, Headed, Fits, BackAfter, Filled}
+use Rattle.trace.specs.Passes.{There, Bars, Headed, Fits, Filled}
 use Rattle.trace.proofs.Rows.{Rowed}
 use Rattle.trace.specs.Passes
 use Rattle.trace.proofs.Cuts.{withRecords, spells-cut}
 use Rattle.lines.proofs.Theorems.{first-one, not-both}
 use Rattle.trace.proofs.Apart.{no-line, row-no-comment, row-no-dollar}
 use Rattle.trace.proofs.One.{one-trace}
-use Rattle.trace.proofs.Packing.{packed-more, packed-length, lastOffset, last-more, back-keep, back-found, back-none}
 
 -- The first step back with one record more.
 stepped-more : (rs : List Record) {last back b n : ℕ} (r : Record) → n ≡ length rs → last ≡ lastOffset rs → back ≡ stepBack rs

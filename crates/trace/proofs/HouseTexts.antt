@@ -11,11 +11,12 @@ use Rattle.clock.specs.Start.{dayMs, startLimit, DayFraction}
 use Rattle.fields.specs.Columns.{lastNumber}
 use Rattle.record.specs.declared.Record.{Record}
 use Rattle.record.specs.Record.{WellFormed}
+use Rattle.records.specs.Records.{Each, none, more}
 use Rattle.row.specs.House.{rowText}
 use Rattle.row.proofs.Spelled.{row-size}
 use Rattle.lines.specs.Lines.{startText}
 use Rattle.trace.specs.Trace.{Trace}
-use Rattle.trace.specs.House.{versionLineText, dayFraction, startLineText, rowsText, traceText, Each, none, more, Carried}
+use Rattle.trace.specs.House.{versionLineText, dayFraction, startLineText, rowsText, traceText, Carried}
 
 -- Each text, as it is defined.
 

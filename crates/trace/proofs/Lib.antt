@@ -10,7 +10,6 @@ pub mod HouseTexts
 pub mod Judging
 pub mod One
 pub mod Opening
-pub mod Packing
 pub mod Pieces
 pub mod Place
 pub mod Rows

@@ -16,6 +16,7 @@ use Rattle.fields.proofs.Runs.{all-map, all-append, all-left}
 use Rattle.fields.proofs.Scans.{Some, digits-all}
 use Rattle.record.specs.declared.Record.{Record}
 use Rattle.record.specs.Record.{WellFormed}
+use Rattle.records.specs.Records.{Each, none, more}
 use Rattle.row.specs.House.{rowText}
 use Rattle.row.proofs.Spelled.{row-spelled, row-size}
 use Rattle.row.proofs.Formed.{row-formed, row-carried, row-number}
@@ -24,7 +25,7 @@ use Rattle.lines.specs.Lines.{Inside, VersionText, one, two, startText, StartLi
 use Rattle.lines.proofs.Lines.{versionText}
 use Rattle.lines.proofs.Theorems.{version-line-text, version-line-inside, version-known, start-line-inside}
 use Rattle.trace.specs.Trace.{sizeLimit, Trace, Body, over, comment, row, Spells}
-use Rattle.trace.specs.House.{versionLineText, dayFraction, startLineText, rowsText, traceText, Version, Each, none, more, Carried, Writable}
+use Rattle.trace.specs.House.{versionLineText, dayFraction, startLineText, rowsText, traceText, Version, Carried, Writable}
 use Rattle.trace.proofs.HouseTexts.{version-line, start-line, day-fraction, rows-none, rows-more, trace-text, version-line-length, start-line-size, rows-size}
 use Rattle.trace.proofs.One.{one-trace}
 

@@ -9,6 +9,7 @@ use Rattle.clock.specs.Start.{dayMs, startLimit}
 use Rattle.fields.specs.Columns.{lastNumber}
 use Rattle.record.specs.declared.Record.{Record}
 use Rattle.record.specs.Record.{WellFormed}
+use Rattle.records.specs.Records.{Each}
 use Rattle.row.specs.Carries.{Carries}
 use Rattle.row.specs.House.{rowText}
 use Rattle.lines.specs.Lines.{startText}
@@ -40,11 +41,6 @@ traceText t =
 -- 1.1 or 1.2.
 abbrev pub Version : ℕ → Type 0
 Version version = (version ≡ 11) ⊎ (version ≡ 12)
-
--- Every record has P.
-pub data Each (P : Record → Type 0) : List Record → Type 0 where
-  none : Each P []
-  more : {r : Record} {rs : List Record} → P r → Each P rs → Each P (r ∷ rs)
 
 -- Every record is one that the version can carry.
 abbrev pub Carried : ℕ → List Record → Type 0

@@ -5,6 +5,8 @@ use mathlib.Core.List.{List, [], _∷_, _++_}
 use lib.ListN.{length, take, drop}
 use Rattle.record.specs.declared.Record.{Record}
 use Rattle.record.specs.Promise.{fieldsOf}
+use Rattle.records.specs.Records.{packed}
+use Rattle.records.specs.StepBack.{stepBack}
 use Rattle.row_reader.specs.Answer.{lineLimit}
 use Rattle.row.specs.Row.{Row}
 use Rattle.lines.specs.Lines.{FirstLine, VersionLine, Comment, DollarLine}
@@ -14,8 +16,8 @@ use Rattle.trace.specs.declared.Heading.{Heading}
 use Rattle.trace.specs.declared.Heading.the-variants as heading
 use Rattle.trace.specs.declared.Judged.{Judged}
 use Rattle.trace.specs.declared.Judged.the-variants as judged
-use Rattle.trace.specs.Trace.{Trace, Line, Spells}
-use Rattle.trace.specs.Promise.{Lines, Refused, packed, stepBack}
+use Rattle.trace.specs.Trace.{Trace, traceOf, Line, Spells}
+use Rattle.trace.specs.Promise.{Lines, Refused}
 
 -- The line stands at `at`, and the next one at `next`.
 pub record There (text : List ℕ) (at next : ℕ) (line : List ℕ) : Type 0 where
@@ -73,7 +75,7 @@ pub record Versioned (text : List ℕ) (at version : ℕ) : Type 0 where
 pub record Headed (text : List ℕ) (at version start : ℕ) : Type 0 where
   pub within : at ≤ length text
   pub lines : Lines 2 (take at text)
-  pub spelled : Spells (record { version = version; start = start; records = [] }) (take at text)
+  pub spelled : Spells (traceOf version start []) (take at text)
 
 abbrev pub Heads : List ℕ → Heading → Type 0
 Heads text (heading.Body v s at) = Headed text at v s
@@ -82,20 +84,14 @@ Heads text (heading.Bad n p) = Refused text n p
 -- The records of the whole text, or its refusal.
 abbrev pub Judges : List ℕ → ℕ → ℕ → Judged → Type 0
 Judges text version start (judged.Good rows) =
-    (rs : List Record) × Spells (record { version = version; start = start; records = rs }) text × (rows ≡ length rs)
+    (rs : List Record) × Spells (traceOf version start rs) text × (rows ≡ length rs)
 Judges text version start (judged.Bad n p) = Refused text n p
 
 -- Some trace is spelled, and the output has room for its records.
 pub record Fits (text out : List ℕ) (version start : ℕ) : Type 0 where
   pub records : List Record
-  pub spelled : Spells (record { version = version; start = start; records = records }) text
+  pub spelled : Spells (traceOf version start records) text
   pub room : 20 * length records ≤ length out
-
--- The first step back with one record more, at position `row`: the old one if there was one.
-pub record BackAfter (back row before offset b : ℕ) : Type 0 where
-  pub kept : 0 < back → b ≡ back
-  pub found : back ≡ 0 → offset < before → b ≡ row
-  pub none : back ≡ 0 → before ≤ offset → b ≡ 0
 
 -- The output holds the records of whatever trace the text spells, and behind them what was there; b is their first step back.
 pub record Filled (text before after : List ℕ) (b : ℕ) : Type 0 where

@@ -1,33 +1,16 @@
 -- What `read` promises for every text and every output.
-use Prim.Native.Nat.{ℕ, zero, suc, _+_, _*_, _≤_, _<_}
+use Prim.Native.Nat.{ℕ, _+_, _*_, _≤_, _<_}
 use mathlib.Core.Path.{_≡_}
 use mathlib.Core.Logic.{_≢_}
-use mathlib.Core.Bool.{true, false}
 use mathlib.Core.List.{List, [], _∷_, _++_}
-use lib.Dec.{ltb}
 use lib.ListN.{length, drop}
-use Rattle.record.specs.declared.Record.{Record}
-use Rattle.record.specs.Bytes.{bytes}
-use Rattle.record.specs.Record.{number}
+use Rattle.records.specs.Records.{packed}
+use Rattle.records.specs.StepBack.{stepBack}
 use Rattle.row_reader.specs.Answer.{lineLimit}
 use Rattle.trace.specs.declared.Outcome.{Outcome}
 use Rattle.trace.specs.declared.Outcome.the-variants as outcome
 use Rattle.lines.specs.Lines.{FirstLine, DollarLine}
 use Rattle.trace.specs.Trace.{sizeLimit, Trace, Line, Spells, Begins}
-
--- The records, packed one after the other.
-unfoldable pub packed : List Record → List ℕ
-packed [] = []
-packed (r ∷ rs) = bytes 20 (number r) ++ packed rs
-
--- The position, from 1, of the first record whose offset is below its predecessor's, or 0. `at` is the position of the next.
-unfoldable pub backFrom : ℕ → ℕ → List Record → ℕ
-backFrom at before [] = 0
-backFrom at before (r ∷ rs) = elim (ltb (r .offset) before) [ true ↦ at | false ↦ backFrom (at + 1) (r .offset) rs ]
-
-unfoldable pub stepBack : List Record → ℕ
-stepBack [] = 0
-stepBack (r ∷ rs) = backFrom 2 (r .offset) rs
 
 -- Number, place, version, start, rows and first step back for each answer.
 abbrev pub readNumbers : Outcome → List ℕ

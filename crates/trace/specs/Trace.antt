@@ -19,6 +19,10 @@ pub record Trace : Type 0 where
   pub start : ℕ
   pub records : List Record
 
+-- The trace with this version, start and records.
+abbrev pub traceOf : ℕ → ℕ → List Record → Trace
+traceOf version start rs = record { version = version; start = start; records = rs }
+
 -- The text starts with this line, of at most 250 bytes.
 pub record Line (line rest text : List ℕ) : Type 0 where
   pub first : FirstLine line rest text

@@ -5,6 +5,7 @@ use lines::Remark;
 use lines::StartTime;
 use record::of_fields;
 use record::put_record;
+use records::back_after;
 use row_reader::no_window;
 use row_reader::row_in;
 use row_reader::window;
@@ -12,7 +13,7 @@ ghost use Prim.Native.Nat.{_≤_};
 ghost use lib.ListN.{length};
 ghost use Rattle.trace.specs.Trace.{sizeLimit};
 ghost use Rattle.trace.specs.Promise.{readNumbers, ReadPromise};
-ghost use Rattle.trace.specs.Passes.{Windowed, Reaches, RowAt, Says, Versioned, Headed, Heads, Judges, Fits, BackAfter, Filled};
+ghost use Rattle.trace.specs.Passes.{Windowed, Reaches, RowAt, Says, Versioned, Headed, Heads, Judges, Fits, Filled};
 
 // The answer of `read`.
 pub enum Outcome {
@@ -192,19 +193,6 @@ fn other_at(text: &[u8], at: usize) -> Other
         Remark::Dollar => Other::Bad(6),
         Remark::Neither => Other::Bad(7),
     }
-}
-
-// The first step back, where one record more has this offset, and the one before it has that.
-fn back_after(back: u64, row: u64, before: u64, offset: u64) -> u64
-    ensures { λ b. ⌜ BackAfter back row before offset b ⌝ }
-{
-    if back != 0 {
-        return back;
-    }
-    if offset < before {
-        return row;
-    }
-    0
 }
 
 // The first pass, from line 3 on: every line is judged, and the rows are counted.

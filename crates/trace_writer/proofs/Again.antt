@@ -6,17 +6,19 @@ use native.Mathlib.Omega.{arith}
 use lib.ListN.{length, take, drop, length-append}
 use lib.Seq.{take-at}
 use Rattle.record.specs.declared.Record.{Record}
+use Rattle.records.specs.Records.{packed}
+use Rattle.records.specs.StepBack.{stepBack}
+use Rattle.records.proofs.Packing.{packed-length}
+use Rattle.records.proofs.Records.{holds-one}
 use Rattle.trace.specs.declared.Outcome.the-variants as outcome
-use Rattle.trace.specs.Trace.{sizeLimit, Trace, Spells}
-use Rattle.trace.specs.Promise.{packed, stepBack, readNumbers, ReadPromise}
+use Rattle.trace.specs.Trace.{sizeLimit, Trace, Spells, traceOf}
+use Rattle.trace.specs.Promise.{readNumbers, ReadPromise}
 use Rattle.trace.specs.House.{traceText, Writable}
 use Rattle.trace.proofs.Answers.{accepts, refused-numbers}
 use Rattle.trace.proofs.There.{there, there-size, read-writable}
-use Rattle.trace.proofs.Packing.{packed-length}
 use Rattle.trace_writer.specs.declared.Written.the-variants as written
-use Rattle.trace_writer.specs.Promise.{writeNumbers, traceOf, WritePromise}
+use Rattle.trace_writer.specs.Promise.{writeNumbers, WritePromise}
 use Rattle.trace_writer.proofs.Answers as answers
-use Rattle.trace_writer.proofs.Records.{holds-one}
 use Rattle.trace_writer.proofs.Answers.{one-write, writes}
 
 -- The house spelling is read as the trace that it spells.

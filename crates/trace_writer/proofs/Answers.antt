@@ -1,5 +1,5 @@
 -- One answer: the promise of `write` leaves one answer and one output only, and says which traces are written.
-use Prim.Native.Nat.{ℕ, suc, _≤_, _<_}
+use Prim.Native.Nat.{ℕ, _≤_, _<_}
 use mathlib.Core.Path.{_≡_, refl, ap, sym, _∙_}
 use mathlib.Core.Logic.{_≢_}
 use mathlib.Core.List.{List, [], _∷_, _++_}
@@ -8,28 +8,18 @@ use lib.ListN.{length, take, drop, length-append}
 use lib.Seq.{take-at}
 use Rattle.clock.specs.Start.{startLimit}
 use Rattle.record.specs.declared.Record.{Record}
-use Rattle.trace.specs.Promise.{packed}
-use Rattle.trace.specs.House.{traceText, Version, Each, none, more, Writable}
-use Rattle.trace.specs.Trace.{Trace}
-use Rattle.trace.proofs.Packing.{packed-length}
+use Rattle.records.specs.Records.{packed, Whole, Holds, FirstMalformed}
+use Rattle.records.proofs.Lists.{each-at, first-one}
+use Rattle.records.proofs.Packing.{packed-length}
+use Rattle.records.proofs.Records.{holds-one, malformed-one, none-malformed}
+use Rattle.trace.specs.House.{traceText, Version, Writable}
+use Rattle.trace.specs.Trace.{Trace, traceOf}
 use Rattle.trace.proofs.HouseTexts.{trace-text}
 use Rattle.trace_writer.specs.declared.Written.{Written}
 use Rattle.trace_writer.specs.declared.Written.the-variants as answer
-use Rattle.trace_writer.specs.Promise.{writeNumbers, Whole, Holds, FirstMalformed, FirstMisfit, Stopped, traceOf, WritePromise}
-use Rattle.trace_writer.proofs.Records.{holds-one, malformed-one, none-malformed}
+use Rattle.trace_writer.specs.Promise.{writeNumbers, FirstMisfit, Stopped, WritePromise}
 
--- The first that has not P.
-each-at : {P : Record → Type 0} (before : List Record) (r : Record) (after : List Record) → Each P (before ++ (r ∷ after)) → P r
-each-at [] r after (more p f) = p
-each-at (q ∷ before) r after (more p f) = each-at before r after f
-
-first-one : {P : Record → Type 0} {a b : List Record} (r q : Record) (c d : List Record) → Each P a → Each P b → (P r → ⊥) → (P q → ⊥)
-    → a ++ (r ∷ c) ≡ b ++ (q ∷ d) → length a ≡ length b
-first-one r q c d none none f g e = refl
-first-one r q c d none (more {r = k} p b) f g e = let z : r ≡ k = cc in absurd (f (rw z p))
-first-one r q c d (more {r = k} p a) none f g e = let z : q ≡ k = cc in absurd (g (rw z p))
-first-one r q c d (more p a) (more o b) f g e = ap suc (first-one r q c d a b f g (cc))
-
+-- The first misfit stands at one place.
 misfit-one : {version p q : ℕ} {rs : List Record} → FirstMisfit version rs p → FirstMisfit version rs q → p ≡ q
 misfit-one f g =
     let l = first-one (f .this) (g .this) (f .after) (g .after) (f .carried) (g .carried) (f .misfit) (g .misfit) (sym (f .whole) ∙ g .whole) in

@@ -1,10 +1,7 @@
 pub mod Texts
 pub mod Carrying
-pub mod Lists
-pub mod Records
-pub mod Through
+pub mod Rows
 pub mod Measuring
-pub mod Ahead
 pub mod Putting
 pub mod Whole
 pub mod Answers

@@ -8,16 +8,18 @@ use native.Mathlib.Omega.{arith}
 use lib.ListN.{length, take, drop, length-append}
 use Rattle.record.specs.declared.Record.{Record}
 use Rattle.record.specs.Record.{Packs}
+use Rattle.records.specs.Records.{none}
+use Rattle.records.proofs.Lists.{each-snoc}
+use Rattle.records.proofs.Through.{Through, through, through-more, all-through}
 use Rattle.row.specs.Carries.{Carries}
 use Rattle.row.specs.House.{rowText}
-use Rattle.trace.specs.House.{rowsText, none, Carried}
+use Rattle.trace.specs.House.{rowsText, Carried}
 use Rattle.trace.proofs.HouseTexts.{rows-none}
 use Rattle.trace_writer.specs.declared.Size.the-variants as size
 use Rattle.trace_writer.specs.Promise.{FirstMisfit}
 use Rattle.trace_writer.specs.Passes.{ended, RowBytes, carried, misfit, MisfitAfter, Unfit, Measures}
 use Rattle.trace_writer.specs.Passes
-use Rattle.trace_writer.proofs.Lists.{each-snoc, rows-snoc}
-use Rattle.trace_writer.proofs.Through.{Through, through, through-more, all-through}
+use Rattle.trace_writer.proofs.Rows.{rows-snoc}
 
 pub record Measuring (version : ℕ) (s : List ℕ) (at k bytes first : ℕ) : Type 0 where
   pub judged : Through s at k

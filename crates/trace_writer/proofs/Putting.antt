@@ -9,13 +9,14 @@ use Rattle.base.proofs.Lists.{then}
 use Rattle.fields.specs.Columns.{lastNumber}
 use Rattle.record.specs.declared.Record.{Record}
 use Rattle.record.specs.Record.{WellFormed, Packs}
+use Rattle.records.proofs.Lists.{each-head, each-tail}
+use Rattle.records.proofs.Ahead.{Ahead, ahead, later, after-next, ahead-more, all-behind}
 use Rattle.row.specs.Carries.{Carries}
 use Rattle.row.specs.House.{rowText}
 use Rattle.trace.specs.House.{rowsText, Carried}
 use Rattle.trace.proofs.HouseTexts.{rows-none, rows-more}
 use Rattle.trace_writer.specs.Passes.{Fits, RowsPut}
-use Rattle.trace_writer.proofs.Lists.{each-head, each-tail, rows-snoc}
-use Rattle.trace_writer.proofs.Ahead.{Ahead, ahead, later, after-next, ahead-more, all-behind}
+use Rattle.trace_writer.proofs.Rows.{rows-snoc}
 
 pub record Putting (version : ℕ) (s old out : List ℕ) (from at k p : ℕ) : Type 0 where
   pub records : Ahead s at

@@ -1,4 +1,4 @@
--- What the passes of the writer promise each other. The promise of `write` does not cite this file; that of `record_at` does (`EntryOf`).
+-- What the passes of the writer promise each other. No public promise cites this file.
 use Prim.Native.Nat.{ℕ, _+_, _≤_}
 use mathlib.Core.Path.{_≡_}
 use mathlib.Core.Logic.{_≢_}
@@ -7,15 +7,13 @@ use lib.ListN.{length}
 use Rattle.base.specs.Wrote.{Wrote}
 use Rattle.fields.specs.Columns.{lastNumber}
 use Rattle.record.specs.declared.Record.{Record}
-use Rattle.record.specs.Record.{Packs}
+use Rattle.records.specs.Records.{Holds, FirstMalformed}
 use Rattle.row.specs.Carries.{Carries}
 use Rattle.row.specs.House.{rowText}
 use Rattle.trace.specs.House.{versionLineText, startLineText, rowsText, Carried}
-use Rattle.trace_writer.specs.declared.Entry.{Entry}
-use Rattle.trace_writer.specs.declared.Entry.the-variants as entry
 use Rattle.trace_writer.specs.declared.Size.{Size}
 use Rattle.trace_writer.specs.declared.Size.the-variants as size
-use Rattle.trace_writer.specs.Promise.{Holds, FirstMalformed, FirstMisfit}
+use Rattle.trace_writer.specs.Promise.{FirstMisfit}
 
 -- A line with its end.
 abbrev pub ended : List ℕ → List ℕ
@@ -24,11 +22,6 @@ ended line = line ++ (13 ∷ 10 ∷ [])
 -- Lines 1 and 2.
 abbrev pub headText : ℕ → ℕ → List ℕ
 headText version start = ended (versionLineText version) ++ ended (startLineText start)
-
--- The record that the bytes are, or that they are none.
-abbrev pub EntryOf : List ℕ → Entry → Type 0
-EntryOf s (entry.Is r) = Packs r s
-EntryOf s entry.Not = (r : Record) → Packs r s → ⊥
 
 -- How many bytes row k with its end is, or 0 if the version can't carry it.
 pub data RowBytes (version k : ℕ) (r : Record) (n : ℕ) : Type 0 where

@@ -1,15 +1,14 @@
 -- What `write` promises for every version, start, bytes of records and output.
-use Prim.Native.Nat.{ℕ, _+_, _%_, _≤_, _<_}
+use Prim.Native.Nat.{ℕ, _+_, _≤_, _<_}
 use mathlib.Core.Path.{_≡_}
 use mathlib.Core.List.{List, [], _∷_, _++_}
 use lib.ListN.{length, drop}
 use Rattle.clock.specs.Start.{startLimit}
 use Rattle.record.specs.declared.Record.{Record}
-use Rattle.record.specs.Record.{WellFormed, Packs}
+use Rattle.records.specs.Records.{packed, Whole, Holds, FirstMalformed}
 use Rattle.row.specs.Carries.{Carries}
-use Rattle.trace.specs.Trace.{Trace}
-use Rattle.trace.specs.Promise.{packed}
-use Rattle.trace.specs.House.{traceText, Version, Each, Carried, Writable}
+use Rattle.trace.specs.Trace.{traceOf}
+use Rattle.trace.specs.House.{traceText, Version, Carried, Writable}
 use Rattle.trace_writer.specs.declared.Written.{Written}
 use Rattle.trace_writer.specs.declared.Written.the-variants as written
 
@@ -17,27 +16,6 @@ use Rattle.trace_writer.specs.declared.Written.the-variants as written
 abbrev pub writeNumbers : Written → List ℕ
 writeNumbers (written.Done n) = 0 ∷ 0 ∷ n ∷ []
 writeNumbers (written.Refused n p) = n ∷ p ∷ 0 ∷ []
-
--- Twenty bytes for each record, and no more records than row numbers.
-pub record Whole (s : List ℕ) : Type 0 where
-  pub twenties : length s % 20 ≡ 0
-  pub few : length s ≤ 19999980
-
--- The bytes are these records, each well formed, packed one after the other.
-pub record Holds (rs : List Record) (s : List ℕ) : Type 0 where
-  pub formed : Each WellFormed rs
-  pub bytes : s ≡ packed rs
-
--- The first record that is not well formed, by its position from 1: those before it are, and its twenty bytes are no packed record.
-pub record FirstMalformed (s : List ℕ) (place : ℕ) : Type 0 where
-  pub before : List Record
-  pub these : List ℕ
-  pub after : List ℕ
-  pub bytes : s ≡ packed before ++ (these ++ after)
-  pub formed : Each WellFormed before
-  pub twenty : length these ≡ 20
-  pub malformed : (r : Record) → Packs r these → ⊥
-  pub at : place ≡ length before + 1
 
 -- The first record that the version can't carry, by its position from 1: those before it are carried.
 pub record FirstMisfit (version : ℕ) (rs : List Record) (place : ℕ) : Type 0 where
@@ -57,10 +35,6 @@ pub data Stopped (version start : ℕ) (s : List ℕ) : ℕ → ℕ → Type 0 w
   malformed : {place : ℕ} → Whole s → Version version → start ≤ startLimit → FirstMalformed s place → Stopped version start s 23 place
   misfit : {rs : List Record} {place : ℕ} → Whole s → Version version → start ≤ startLimit → Holds rs s → FirstMisfit version rs place
       → Stopped version start s 24 place
-
--- The trace with this version, start and records.
-abbrev pub traceOf : ℕ → ℕ → List Record → Trace
-traceOf version start rs = record { version = version; start = start; records = rs }
 
 -- `write` of a version, a start and the bytes s, into an output that held `before` and then holds `after`, gives the numbers a.
 pub data WritePromise (version start : ℕ) (s before a after : List ℕ) : Type 0 where

@@ -10,35 +10,31 @@ use digits::put_decimal;
 use digits::put_padded;
 use digits::renew;
 use record::Record;
-use record::Unpacked;
 use record::packed_at;
-use record::unpack;
+use records::Entry;
+use records::record_at;
+use records::whole;
 use row_writer::put_row;
 use row_writer::row_length;
 ghost use mathlib.Core.Path.{_≡_};
 ghost use mathlib.Core.List.{[], _∷_};
 ghost use Prim.Native.Nat.{_+_, _≤_};
-ghost use lib.ListN.{length, take, drop};
+ghost use lib.ListN.{length};
 ghost use Rattle.base.specs.Decides.{Decides};
 ghost use Rattle.base.specs.Wrote.{Wrote};
 ghost use Rattle.clock.specs.Start.{startLimit};
 ghost use Rattle.fields.specs.Columns.{lastNumber};
 ghost use Rattle.record.specs.Record.{WellFormed};
+ghost use Rattle.records.specs.Records.{Whole};
 ghost use Rattle.row.specs.Carries.{Carries};
 ghost use Rattle.trace.specs.House.{Version, versionLineText, startLineText};
-ghost use Rattle.trace_writer.specs.Promise.{writeNumbers, Whole, WritePromise};
-ghost use Rattle.trace_writer.specs.Passes.{ended, headText, EntryOf, RowBytes, MisfitAfter, Measures, Fits, RowsPut};
+ghost use Rattle.trace_writer.specs.Promise.{writeNumbers, WritePromise};
+ghost use Rattle.trace_writer.specs.Passes.{ended, headText, RowBytes, MisfitAfter, Measures, Fits, RowsPut};
 
 // The answer of `write`.
 pub enum Written {
     Done { bytes: usize },
     Refused { number: u64, place: u64 },
-}
-
-// What twenty bytes are: a well-formed record, or none.
-pub enum Entry {
-    Is(Record),
-    Not,
 }
 
 // How many bytes the rows are; or a refusal.
@@ -86,19 +82,6 @@ fn head_length(version: u64, start: u64) -> usize
     ensures { λ r. ⌜ (r ≡ length (headText version start)) × (r ≤ 64) ⌝ }
 {
     decimal_length(start / 86400000) + HEAD
-}
-
-// The record at a place.
-pub fn record_at(records: &[u8], at: usize) -> Entry
-    requires { ⌜ at + 20 ≤ length (now records) ⌝ }
-    ensures { λ e. ⌜ EntryOf (take 20 (drop at (now (records .entry)))) e ⌝ }
-{
-    let u = unpack(&records[at..at + 20]);
-    match u {
-        Unpacked::Fields(r) => Entry::Is(r),
-        Unpacked::NotTwenty => Entry::Not,
-        Unpacked::Malformed => Entry::Not,
-    }
 }
 
 // Whether a version can carry a record.
@@ -235,13 +218,7 @@ fn put_trace(version: u64, start: u64, records: &[u8], out: &mut [u8]) -> Writte
 pub fn write(version: u64, start: u64, records: &[u8], out: &mut [u8]) -> Written
     ensures { λ w. ⌜ WritePromise version start (now (records .entry)) (now (out .entry)) (writeNumbers w) (now (out .exit)) ⌝ }
 {
-    if records.len() % 20 != 0 {
-        return Written::Refused {
-            number: 20,
-            place: 0,
-        };
-    }
-    if 19_999_980 < records.len() {
+    if !whole(records) {
         return Written::Refused {
             number: 20,
             place: 0,

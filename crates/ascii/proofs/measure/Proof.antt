@@ -3,7 +3,7 @@ use Prim.Native.Nat.{_+_, _-_, _≤_}
 use native.Mathlib.Omega.{arith}
 use borrow.Author.Needs.{needs}
 use lib.ListN.{length}
-use Rattle.trace_writer.proofs.Through.{one-more, malformed-next}
+use Rattle.records.proofs.Through.{one-more, malformed-next}
 use Rattle.ascii.proofs.Measuring.{Measuring, measuring, measured-more, measured}
 use Rattle.ascii.proofs.measure.Statement.{statement}
 use Rattle.ascii.proofs.measure.Tie as tie

@@ -4,8 +4,8 @@ use mathlib.Core.Path.{ap}
 use native.Mathlib.Omega.{arith}
 use lib.ListN.{length}
 use Rattle.clock.proofs.Stamps.{some-stamp}
-use Rattle.trace_writer.proofs.Ahead.{next-whole, next-place}
-use Rattle.trace_writer.proofs.Records.{packed-there}
+use Rattle.records.proofs.Records.{packed-there}
+use Rattle.records.proofs.Ahead.{next-whole, next-place}
 use Rattle.ascii.specs.Passes.{Shows}
 use Rattle.ascii.proofs.Keeping.{first-second, begins}
 use Rattle.ascii.proofs.Putting.{Putting, putting, next-room, put-more, lines-put}

@@ -3,8 +3,8 @@ use Prim.Native.Nat.{_+_, _-_, _≤_}
 use native.Mathlib.Omega.{arith}
 use borrow.Author.Needs.{needs}
 use lib.ListN.{length}
+use Rattle.records.proofs.Through.{one-more, malformed-next}
 use Rattle.trace_writer.specs.Passes.{malformed}
-use Rattle.trace_writer.proofs.Through.{one-more, malformed-next}
 use Rattle.trace_writer.proofs.Measuring.{Measuring, measuring, measured-more, measured, misfit-found}
 use Rattle.trace_writer.proofs.measure.Statement.{statement}
 use Rattle.trace_writer.proofs.measure.Tie as tie
@@ -34,7 +34,8 @@ measure-spec =
     malformed (malformed-next (l .judged) h (rw (c .enum-told .given .1) at (c .before .before .record-at .ensures))))
     (λ c κs.
     let p = rw (c .before .e .given .1) at (c .before .before .before .record-at .ensures) in
-    (p .formed, omega arith, one-more (c .before .before .before .before .before .loop .inv .judged) (c .before .before .before .before .before .before .before .pre) (c .before .before .before .before .loop-test .taken) .1))
+    let m = one-more (c .before .before .before .before .before .loop .inv .judged) (c .before .before .before .before .before .before .before .pre) (c .before .before .before .before .loop-test .taken) .1 in
+    (p .formed, omega arith, omega arith))
     (λ c κs. search needs)
     (λ c.
     let l = c .before .before .before .before .before .before .before .loop .inv in

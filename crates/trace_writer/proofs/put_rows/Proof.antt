@@ -8,8 +8,8 @@ use lib.Seq.{length-take-le}
 use Rattle.digits.specs.House.{decimalText}
 use Rattle.digits.proofs.House.{length-one}
 use Rattle.digits.proofs.Writers.{put-first}
-use Rattle.trace_writer.proofs.Ahead.{next-whole, next-place}
-use Rattle.trace_writer.proofs.Records.{packed-there}
+use Rattle.records.proofs.Records.{packed-there}
+use Rattle.records.proofs.Ahead.{next-whole, next-place}
 use Rattle.trace_writer.proofs.Putting.{Putting, putting, next-row, next-room, put-more, rows-put}
 use Rattle.trace_writer.proofs.put_rows.Statement.{statement}
 use Rattle.trace_writer.proofs.put_rows.Tie as tie

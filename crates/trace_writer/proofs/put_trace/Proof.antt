@@ -5,8 +5,9 @@ use mathlib.Core.List.{[], _∷_}
 use native.Mathlib.Omega.{arith}
 use borrow.Author.Needs.{needs}
 use lib.ListN.{length, length-append}
+use Rattle.trace.specs.Trace.{traceOf}
 use Rattle.trace.specs.House.{versionLineText, startLineText, traceText}
-use Rattle.trace_writer.specs.Promise.{refused, no-room, done, traceOf}
+use Rattle.trace_writer.specs.Promise.{refused, no-room, done}
 use Rattle.trace_writer.specs.Passes.{ended}
 use Rattle.trace_writer.proofs.Whole.{trace-length, writable, rows-few, unfit-stopped, all-written}
 use Rattle.trace_writer.proofs.put_trace.Statement.{statement}

@@ -8,12 +8,10 @@ use lib.Seq.{drop-drop}
 use Rattle.record.specs.declared.Record.{Record}
 use Rattle.record.specs.Record.{WellFormed, Packs}
 use Rattle.record.proofs.OneRecord.{packs, one-record}
-use Rattle.trace.specs.Promise.{packed}
-use Rattle.trace.specs.House.{Each, more}
-use Rattle.trace.proofs.Packing.{packed-length}
-use Rattle.trace_writer.specs.Promise.{Holds}
-use Rattle.trace_writer.proofs.Lists.{each-tail, first-packed, rest-packed}
-use Rattle.trace_writer.proofs.Records.{holds-one}
+use Rattle.records.specs.Records.{packed, Each, more, Holds}
+use Rattle.records.proofs.Lists.{each-tail}
+use Rattle.records.proofs.Packing.{packed-length, first-packed, rest-packed}
+use Rattle.records.proofs.Records.{holds-one}
 
 pub record Ahead (s : List ℕ) (at : ℕ) : Type 0 where
   pub before : List Record

@@ -1,39 +1,15 @@
--- Laws on the records of a trace, in order: their properties, their packed bytes and their rows, one more at the end.
-use Prim.Native.Nat.{ℕ, _+_, _≤_}
+-- Laws on packed records: their bytes, in order.
+use Prim.Native.Nat.{ℕ, _+_, _*_, _≤_}
 use mathlib.Core.Path.{_≡_, refl, ap, sym, _∙_}
-use mathlib.Core.List.{List, [], _∷_, _++_}
+use mathlib.Core.List.{List, [], _∷_, _++_, append-assoc, append-nil}
 use native.Mathlib.Omega.{arith}
-use lib.ListN.{length, take, drop, length-drop, take-append-drop}
+use lib.ListN.{length, take, drop, length-append, length-drop, take-append-drop}
 use lib.Seq.{take-at, drop-at, drop-drop, length-take-le}
 use Rattle.record.specs.declared.Record.{Record}
 use Rattle.record.specs.Bytes.{bytes}
 use Rattle.record.specs.Record.{number}
 use Rattle.record.proofs.Bytes.{length-bytes}
-use Rattle.row.specs.House.{rowText}
-use Rattle.trace.specs.Promise.{packed}
-use Rattle.trace.specs.House.{rowsText, Each, none, more}
-use Rattle.trace_writer.specs.Passes.{ended}
-use Rattle.trace.proofs.HouseTexts.{rows-none, rows-more, rows-append}
-
--- Every record of two lists.
-pub each-append : {P : Record → Type 0} {rs qs : List Record} → Each P rs → Each P qs → Each P (rs ++ qs)
-each-append none g = g
-each-append (more p f) g = more p (each-append f g)
-
-pub each-snoc : {P : Record → Type 0} {rs : List Record} {r : Record} → Each P rs → P r → Each P (rs ++ (r ∷ []))
-each-snoc f p = each-append f (more p none)
-
-pub each-tail : {P : Record → Type 0} {r : Record} {rs : List Record} → Each P (r ∷ rs) → Each P rs
-each-tail (more p f) = f
-
-pub each-head : {P : Record → Type 0} {r : Record} {rs : List Record} → Each P (r ∷ rs) → P r
-each-head (more p f) = p
-
--- One row more.
-pub rows-snoc : (version : ℕ) (rs : List Record) (r : Record) → rowsText version 1 (rs ++ (r ∷ [])) ≡ rowsText version 1 rs ++ ended (rowText version (length rs + 1) r)
-rows-snoc version rs r =
-    let e : 1 + length rs ≡ length rs + 1 = omega arith in
-    rw (rows-append version 1 rs (r ∷ []), e, rows-more, rows-none)
+use Rattle.records.specs.Records.{packed}
 
 -- The packed bytes of one record and more.
 pub packed-first : (r : Record) (rs : List Record) → packed (r ∷ rs) ≡ bytes 20 (number r) ++ packed rs
@@ -43,6 +19,23 @@ packed-first r rs = refl
 pub packed-none : packed [] ≡ []
 unfolding packed
 packed-none = refl
+
+-- Packed records, one list behind the other.
+pub packed-append : (rs qs : List Record) → packed (rs ++ qs) ≡ packed rs ++ packed qs
+unfolding packed
+packed-append [] qs = refl
+packed-append (r ∷ rs) qs = rw (packed-append rs qs) (sym (append-assoc (bytes 20 (number r)) (packed rs) (packed qs)))
+
+-- One record more.
+pub packed-more : (rs : List Record) (r : Record) → packed (rs ++ (r ∷ [])) ≡ packed rs ++ bytes 20 (number r)
+unfolding packed
+packed-more rs r = packed-append rs (r ∷ []) ∙ rw append-nil
+
+-- Twenty bytes for each record.
+pub packed-length : (rs : List Record) → length (packed rs) ≡ 20 * length rs
+unfolding packed
+packed-length [] = refl
+packed-length (r ∷ rs) = rw length-append (omega (arith, length-bytes 20 (number r), packed-length rs))
 
 -- The twenty bytes at a place, and what stands behind them.
 pub twenty : (at : ℕ) (s : List ℕ) → at + 20 ≤ length s → length (take 20 (drop at s)) ≡ 20

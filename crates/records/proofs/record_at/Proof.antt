@@ -1,12 +1,12 @@
--- `trace_writer::record_at` meets its contract.
+-- `records::record_at` meets its contract.
 use Prim.Native.Nat.{ℕ, _+_, _-_}
 use mathlib.Core.Path.{_≡_}
 use native.Mathlib.Omega.{arith}
 use borrow.Author.Needs.{needs}
 use Rattle.record.proofs.Promises.{unpacked-fields, unpacked-not-twenty, unpacked-malformed}
 use Rattle.record.proofs.OneRecord.{packed-length}
-use Rattle.trace_writer.proofs.record_at.Statement.{statement}
-use Rattle.trace_writer.proofs.record_at.Tie as tie
+use Rattle.records.proofs.record_at.Statement.{statement}
+use Rattle.records.proofs.record_at.Tie as tie
 
 -- The part that is lent has twenty bytes.
 part : (at : ℕ) → at + 20 - at ≡ 20

@@ -4,14 +4,11 @@ use mathlib.Core.Path.{_≡_, refl, ap, sym, _∙_}
 use mathlib.Core.List.{List, [], _∷_, _++_, append-assoc, append-nil}
 use native.Mathlib.Omega.{arith}
 use lib.ListN.{length, take, drop, length-append, drop-of-length-le}
-use Rattle.fields.specs.Columns.{lastNumber}
 use Rattle.record.specs.declared.Record.{Record}
 use Rattle.record.specs.Record.{WellFormed, Packs}
-use Rattle.trace.specs.Promise.{packed}
-use Rattle.trace.specs.House.{Each, none}
-use Rattle.trace.proofs.Packing.{packed-more}
-use Rattle.trace_writer.specs.Promise.{Whole, Holds, FirstMalformed}
-use Rattle.trace_writer.proofs.Lists.{each-snoc, packed-none, twenty, next-record}
+use Rattle.records.specs.Records.{packed, packedLimit, Each, none, Whole, Holds, FirstMalformed}
+use Rattle.records.proofs.Lists.{each-snoc}
+use Rattle.records.proofs.Packing.{packed-more, packed-none, twenty, next-record}
 
 pub record Through (s : List ℕ) (at k : ℕ) : Type 0 where
   pub records : List Record
@@ -25,8 +22,8 @@ abbrev pub through : (s : List ℕ) → Through s 0 0
 through s = record { records = []; front = rw packed-none; formed = none; counted = refl; place = refl; within = omega arith }
 
 module _ {s : List ℕ} {at k : ℕ} (m : Through s at k) where
-  -- Another record is there, and has a row number.
-  pub one-more : Whole s → at < length s → (at + 20 ≤ length s) × (k + 1 ≤ lastNumber)
+  -- Another record is there, and within the limit.
+  pub one-more : Whole s → at < length s → (at + 20 ≤ length s) × (20 * (k + 1) ≤ packedLimit)
   one-more w h =
       let p = m .place in
       let a = w .twenties in

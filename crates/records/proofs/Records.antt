@@ -10,11 +10,8 @@ use Rattle.record.specs.Bytes.{bytes}
 use Rattle.record.specs.Record.{number, WellFormed, PackedAt}
 use Rattle.record.proofs.Bytes.{length-bytes}
 use Rattle.record.proofs.OneRecord.{packs, one-record}
-use Rattle.trace.specs.Promise.{packed}
-use Rattle.trace.specs.House.{Each, none, more}
-use Rattle.trace.proofs.Packing.{packed-length}
-use Rattle.trace_writer.specs.Promise.{Holds, FirstMalformed}
-use Rattle.trace_writer.proofs.Lists.{first-packed, rest-packed}
+use Rattle.records.specs.Records.{packed, Each, none, more, Holds, FirstMalformed}
+use Rattle.records.proofs.Packing.{packed-length, first-packed, rest-packed}
 
 -- Fronts of one length are one front, and the same stands behind them.
 fronts : (a b c d : List ℕ) → length a ≡ length b → a ++ c ≡ b ++ d → (a ≡ b) × (c ≡ d)

@@ -1,34 +1,14 @@
--- Laws on the records of a trace: their packed bytes, and the first step back.
-use Prim.Native.Nat.{ℕ, suc, _+_, _*_, _≤_, _<_}
-use mathlib.Core.Path.{_≡_, refl, sym, _∙_}
+-- Laws on the first step back, one record more at the end.
+use Prim.Native.Nat.{ℕ, suc, _+_, _≤_, _<_}
+use mathlib.Core.Path.{_≡_, refl, _∙_}
 use mathlib.Core.Bool.{Bool, true, false}
-use mathlib.Core.List.{List, [], _∷_, _++_, append-assoc, append-nil}
+use mathlib.Core.List.{List, [], _∷_, _++_}
 use native.Mathlib.Omega.{arith}
 use lib.Dec.{ltb}
 use borrow.Author.Tests.{lt-ltb, le-ltb}
-use lib.ListN.{length, length-append}
+use lib.ListN.{length}
 use Rattle.record.specs.declared.Record.{Record}
-use Rattle.record.specs.Bytes.{bytes}
-use Rattle.record.specs.Record.{number}
-use Rattle.record.proofs.Bytes.{length-bytes}
-use Rattle.trace.specs.Promise.{packed, backFrom, stepBack}
-
--- Packed records, one list behind the other.
-pub packed-append : (rs qs : List Record) → packed (rs ++ qs) ≡ packed rs ++ packed qs
-unfolding packed
-packed-append [] qs = refl
-packed-append (r ∷ rs) qs = rw (packed-append rs qs) (sym (append-assoc (bytes 20 (number r)) (packed rs) (packed qs)))
-
--- One record more.
-pub packed-more : (rs : List Record) (r : Record) → packed (rs ++ (r ∷ [])) ≡ packed rs ++ bytes 20 (number r)
-unfolding packed
-packed-more rs r = packed-append rs (r ∷ []) ∙ rw append-nil
-
--- Twenty bytes for each record.
-pub packed-length : (rs : List Record) → length (packed rs) ≡ 20 * length rs
-unfolding packed
-packed-length [] = refl
-packed-length (r ∷ rs) = rw length-append (omega (arith, length-bytes 20 (number r), packed-length rs))
+use Rattle.records.specs.StepBack.{backFrom, stepBack}
 
 -- The offset of the last record, or this.
 abbrev pub lastFrom : ℕ → List Record → ℕ

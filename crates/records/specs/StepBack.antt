@@ -1,0 +1,22 @@
+-- The first step back of records in order: the first whose offset is below its predecessor's.
+use Prim.Native.Nat.{ℕ, _+_, _≤_, _<_}
+use mathlib.Core.Path.{_≡_}
+use mathlib.Core.Bool.{true, false}
+use mathlib.Core.List.{List, [], _∷_}
+use lib.Dec.{ltb}
+use Rattle.record.specs.declared.Record.{Record}
+
+-- The position, from 1, of the first record whose offset is below its predecessor's, or 0. `at` is the position of the next.
+unfoldable pub backFrom : ℕ → ℕ → List Record → ℕ
+backFrom at before [] = 0
+backFrom at before (r ∷ rs) = elim (ltb (r .offset) before) [ true ↦ at | false ↦ backFrom (at + 1) (r .offset) rs ]
+
+unfoldable pub stepBack : List Record → ℕ
+stepBack [] = 0
+stepBack (r ∷ rs) = backFrom 2 (r .offset) rs
+
+-- What `back_after` promises: the first step back with one record more, at position `row`, is the old one if there was one.
+pub record BackAfter (back row before offset b : ℕ) : Type 0 where
+  pub kept : 0 < back → b ≡ back
+  pub found : back ≡ 0 → offset < before → b ≡ row
+  pub none : back ≡ 0 → before ≤ offset → b ≡ 0
