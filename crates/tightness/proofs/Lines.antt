@@ -1,11 +1,10 @@
 -- Wrong answers of the readers of fields, rows and single lines: each is refuted over what a field, a row or a line is.
-use Prim.Native.Nat.{ℕ, _+_, _^_, _≤_, _<_}
-use mathlib.Core.Path.{_≡_, refl, ap, sym, _∙_}
+use Prim.Native.Nat.{ℕ}
+use mathlib.Core.Path.{_≡_, refl, ap}
 use mathlib.Core.Logic.{_≢_}
-use mathlib.Core.List.{List, [], _∷_, _++_}
+use mathlib.Core.List.{List, [], _∷_}
 use native.Mathlib.Omega.{arith}
-use lib.ListN.{length, getD, length-append}
-use Rattle.digits.specs.Digits.{Hex}
+use lib.ListN.{length, getD}
 use Rattle.fields.specs.Runs.{All, more, Stops, halt}
 use Rattle.fields.specs.Columns.{NumberField, OffsetField, BusField, IdField, standard, long, LengthField, Capital, remoteText}
 use Rattle.fields.specs.Window.{Solid, FieldAt}

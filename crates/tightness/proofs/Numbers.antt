@@ -1,14 +1,14 @@
 -- Wrong answers of the readers and writers of digits, and of the test of a record: each is refuted over the relation or the text that the function
 -- promises.
-use Prim.Native.Nat.{ℕ, _+_, _*_, _%_, _^_, _-_, _≤_, _<_}
-use mathlib.Core.Path.{_≡_, refl, ap, sym, _∙_}
+use Prim.Native.Nat.{ℕ, _%_, _^_, _-_, _<_}
+use mathlib.Core.Path.{_≡_, refl, ap}
 use mathlib.Core.Logic.{_≢_, inl}
 use mathlib.Core.List.{List, [], _∷_}
 use native.Mathlib.Omega.{arith}
 use lib.ListN.{length, getD}
 use Rattle.digits.specs.Digits.{DecimalDigit, Digits, HexDigit, IsHex, capital, small, figure, letter, none, more, Decimal, Padded}
 use Rattle.digits.specs.declared.Letters.{Letters}
-use Rattle.digits.specs.declared.Letters.the-variants.{Capital, Small}
+use Rattle.digits.specs.declared.Letters.the-variants.{Capital}
 use Rattle.digits.specs.House.{glyphOf, PairsOf, fixed, spell, paddedText, hexText, decimalText}
 use Rattle.record.specs.declared.Record.{Record}
 use Rattle.record.specs.Record.{recordOf, WellFormed, ErrorId, one, two, four, eight, Position, low, middle, high}

@@ -1,11 +1,11 @@
 -- Wrong answers of the writers of rows and lines: each is refuted over the house's text.
-use Prim.Native.Nat.{ℕ, _+_, _*_, _^_}
-use mathlib.Core.Path.{_≡_, refl, ap}
-use mathlib.Core.List.{List, [], _∷_}
+use Prim.Native.Nat.{ℕ, _^_}
+use mathlib.Core.Path.{_≡_}
+use mathlib.Core.List.{[], _∷_}
 use native.Mathlib.Omega.{arith}
 use lib.ListN.{length}
-use Rattle.digits.specs.declared.Letters.the-variants.{Capital, Small}
-use Rattle.digits.specs.House.{glyphOf, fixed, hexText, decimalText}
+use Rattle.digits.specs.declared.Letters.the-variants.{Capital}
+use Rattle.digits.specs.House.{glyphOf, fixed, hexText}
 use Rattle.fields.specs.Columns.{markRx}
 use Rattle.record.specs.declared.Record.{Record}
 use Rattle.row.specs.House.{busTexts, markText, idText, byteTexts}
