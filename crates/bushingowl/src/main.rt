@@ -1,4 +1,5 @@
 // The bench program: one trace from standard input, its ASCII export or its refusal to standard output.
+use convert::INPUT_LIMIT;
 use convert::Printed;
 use convert::convert;
 use libc::STDERR_FILENO;
@@ -11,22 +12,29 @@ ghost use Rattle.io.specs.Counts.{Counts};
 ghost use Rattle.convert.specs.Promise.{inputLimit, recordsRoom, pageRoom, Prints};
 
 // One byte more than the most that an input may have.
-fn input_space() -> [u8; 65537]
-    ensures { λ r. ⌜ 65537 ≡ length r ⌝ }
+const SPACE: usize = INPUT_LIMIT + 1;
+
+// Room for the records and for the lines of every input.
+const RECORDS: usize = 72_800;
+
+const PAGE: usize = 313_040;
+
+fn input_space() -> [u8; SPACE]
+    ensures { λ r. ⌜ inputLimit < length r ⌝ }
 {
-    [0; 65537]
+    [0; SPACE]
 }
 
-fn records_space() -> [u8; 72800]
-    ensures { λ r. ⌜ 72800 ≡ length r ⌝ }
+fn records_space() -> [u8; RECORDS]
+    ensures { λ r. ⌜ recordsRoom ≡ length r ⌝ }
 {
-    [0; 72800]
+    [0; RECORDS]
 }
 
-fn page_space() -> [u8; 313040]
-    ensures { λ r. ⌜ 313040 ≡ length r ⌝ }
+fn page_space() -> [u8; PAGE]
+    ensures { λ r. ⌜ pageRoom ≡ length r ⌝ }
 {
-    [0; 313040]
+    [0; PAGE]
 }
 
 // Takes standard input into a space with room for more than an input may have: so what fills the space is too long, and no first part of it is

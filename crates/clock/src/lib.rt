@@ -6,7 +6,10 @@ ghost use Rattle.clock.specs.Date.{leap, monthDays, before, beforeYear, 
 ghost use Rattle.clock.specs.Stamp.{Time, Stamp};
 
 // The last start that a trace may have, in milliseconds.
-pub const START_LIMIT: u64 = 8639999999999;
+pub const START_LIMIT: u64 = 8_639_999_999_999;
+
+// The milliseconds of a day.
+pub const DAY_MS: u64 = 86_400_000;
 
 // A day of the Gregorian calendar: day and month count from 1.
 pub struct CalendarDay {
@@ -61,7 +64,7 @@ pub fn start_of(days: u64, fraction: u64, digits: u64) -> u64
     ensures { λ r. ⌜ Start days fraction digits r ⌝ }
 {
     let f = ten_digits(fraction, digits);
-    days * 86400000 + (f * 864 + 50000) / 100000
+    days * DAY_MS + (f * 864 + 50000) / 100000
 }
 
 // The fraction of ten digits that stands for a millisecond of a day.

@@ -9,6 +9,9 @@ use trace::read;
 ghost use lib.ListN.{length};
 ghost use Rattle.convert.specs.Promise.{refusalText, Put, ConvertPromise};
 
+// The most bytes of an input.
+pub const INPUT_LIMIT: usize = 65_536;
+
 // How many bytes of the page are to be printed; or what was lent is too short, which is no refusal of the input.
 pub enum Printed {
     Page(usize),
@@ -38,7 +41,7 @@ fn put_refusal(page: &mut [u8], number: u64, place: u64) -> Printed
 pub fn convert(input: &[u8], records: &mut [u8], page: &mut [u8]) -> Printed
     ensures { λ r. ⌜ ConvertPromise (now (input .entry)) (length (now (records .entry))) (now (page .entry)) r (now (page .exit)) ⌝ }
 {
-    if 65_536 < input.len() {
+    if INPUT_LIMIT < input.len() {
         return put_refusal(page, 1, 0);
     }
     let a = read(input, records);

@@ -10,6 +10,10 @@ use Rattle.fields.specs.declared.Scan.{Scan}
 use Rattle.fields.specs.Runs.{All, Stops}
 use Rattle.fields.specs.Columns.{markRx, markTx, markWarng, markError}
 
+-- How many bytes a window has.
+abbrev pub windowBytes : ℕ
+windowBytes = 4096
+
 -- A byte of a line.
 abbrev pub NoEnd : ℕ → Type 0
 NoEnd b = b ≢ 13

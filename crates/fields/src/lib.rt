@@ -12,7 +12,7 @@ ghost use Rattle.base.specs.Decides.{Decides};
 ghost use Rattle.digits.specs.Digits.{DecimalDigit, HexDigit, Hex};
 ghost use Rattle.fields.specs.Runs.{All};
 ghost use Rattle.fields.specs.Columns.{NumberField, OffsetField, BusField, LengthField, Capital, remoteText};
-ghost use Rattle.fields.specs.Window.{Lined, Skipped, Solid, Starts, Scanned, Takes, HexField, MarkField};
+ghost use Rattle.fields.specs.Window.{windowBytes, Lined, Skipped, Solid, Starts, Scanned, Takes, HexField, MarkField};
 
 // How many bytes a window has. A row is read from a window, behind a thin reference: over a slice each gap and each field would be a real
 // call with two numbers more.
@@ -38,7 +38,7 @@ pub fn ends(b: u8) -> bool
 pub fn skip_in(w: &[u8; WINDOW], at: usize) -> usize
     requires { ⌜ Lined (drop at (now w)) ⌝ }
     ensures { λ a. ⌜ Skipped (now (w .entry)) at a ⌝ }
-    ensures { λ a. ⌜ a < 4096 ⌝ }
+    ensures { λ a. ⌜ a < windowBytes ⌝ }
 {
     let bytes: &[u8] = w;
     skip(bytes, at)

@@ -8,6 +8,10 @@ use Rattle.digits.specs.Digits.{Decimal, Padded}
 use Rattle.clock.specs.Start.{Start, startLimit}
 use Rattle.fields.specs.Runs.{All}
 
+-- The most bytes of a line before its end.
+abbrev pub lineLimit : ℕ
+lineLimit = 250
+
 -- A byte before the end of a line: neither CR nor LF.
 pub record Inside (b : ℕ) : Type 0 where
   pub cr : b ≢ 13

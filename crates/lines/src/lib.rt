@@ -11,6 +11,9 @@ ghost use Rattle.lines.specs.Lines.{Inside};
 ghost use Rattle.lines.specs.Answer.{EndsAt, VersionOr0, StartOr, Remarks};
 ghost use Rattle.lines.specs.Parts.{Blank, Digit, Ran, OpenedOr0, Stands, StartOfDigits};
 
+// The most bytes of a line before its end.
+pub const LINE_LIMIT: usize = 250;
+
 // Where a line ends: at its CR, which LF follows; or nowhere.
 pub enum Ending {
     At(usize),

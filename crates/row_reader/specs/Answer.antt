@@ -5,13 +5,10 @@ use mathlib.Core.List.{List}
 use lib.ListN.{length}
 use Rattle.record.specs.declared.Record.{Record}
 use Rattle.record.specs.Promise.{fieldsOf}
+use Rattle.lines.specs.Lines.{lineLimit}
 use Rattle.row.specs.Row.{Row}
 use Rattle.row_reader.specs.declared.Reading.{Reading}
 use Rattle.row_reader.specs.declared.Reading.the-variants.{Is, Not}
-
--- The most bytes before the end of a line.
-abbrev pub lineLimit : ℕ
-lineLimit = 250
 
 -- The record, exactly if the line has at most 250 bytes and is the row of it; else none is.
 abbrev pub ReadsRow : ℕ → ℕ → List ℕ → Reading → Type 0

@@ -8,13 +8,14 @@ mod slots;
 mod warning;
 
 use fields::WINDOW;
+use lines::LINE_LIMIT;
 use record::Record;
 use record::of_fields;
 ghost use mathlib.Core.Path.{_≡_};
 ghost use mathlib.Core.List.{List, _∷_, _++_};
 ghost use Prim.Native.Nat.{ℕ, _+_, _<_};
 ghost use lib.ListN.{length, drop};
-ghost use Rattle.fields.specs.Window.{LineOf, Lined};
+ghost use Rattle.fields.specs.Window.{windowBytes, LineOf, Lined};
 ghost use Rattle.row_reader.specs.Answer.{ReadsRow, RowFound};
 
 // A record, or not a row.
@@ -34,7 +35,7 @@ pub fn row_in(w: &[u8; WINDOW], at: usize, version: u64, k: u64, out: &mut [u64;
 
 // Puts bytes at the front of a window, and CR behind them.
 pub fn window(s: &[u8], w: &mut [u8; WINDOW])
-    requires { ⌜ length (now s) < 4096 ⌝ }
+    requires { ⌜ length (now s) < windowBytes ⌝ }
     ensures { λ _. ⌜ now (w .exit) ≡ now (s .entry) ++ (13 ∷ drop (length (now (s .entry)) + 1) (now (w .entry))) ⌝ }
 {
     let slots: &mut [u8] = w;
@@ -49,7 +50,7 @@ pub fn window(s: &[u8], w: &mut [u8; WINDOW])
 
 // A window to be filled. Of its bytes nothing is promised, which would be told one by one.
 pub fn no_window() -> [u8; WINDOW]
-    ensures { λ w. ⌜ 4096 ≡ length w ⌝ }
+    ensures { λ w. ⌜ windowBytes ≡ length w ⌝ }
 {
     [0; WINDOW]
 }
@@ -59,7 +60,7 @@ pub fn read_row(line: &[u8], version: u64, k: u64) -> Reading
     ensures { λ r. ⌜ ReadsRow version k (now (line .entry)) r ⌝ }
 {
     let n = line.len();
-    if 250 < n {
+    if LINE_LIMIT < n {
         return Reading::Not;
     }
     let mut w = no_window();

@@ -1,6 +1,7 @@
 // The record's fields, in the order of `of_fields`, as they are read: a slot is put as soon as its column is.
 ghost use Prim.Native.Nat.{_<_, _≤_};
 ghost use lib.ListN.{getD};
+ghost use Rattle.fields.specs.Window.{windowBytes};
 ghost use Rattle.row_reader.specs.Chain.{seen, Puts, PutsRemote, PutsWarning, Finished};
 
 // Puts the slot of one column before the data.
@@ -34,7 +35,7 @@ pub fn put_warning(out: &mut [u64; 7])
 
 // At the end of the line: one more than its place, if no byte is left, and the data in the last slot; else 0.
 pub fn finish(a: usize, left: u64, data: u64, out: &mut [u64; 7]) -> usize
-    requires { ⌜ a < 4096 ⌝ }
+    requires { ⌜ a < windowBytes ⌝ }
     ensures { λ e. ⌜ Finished left a (seen (now (out .entry)) «data») (now (out .exit)) e ⌝ }
 {
     let slots: &mut [u64] = out;

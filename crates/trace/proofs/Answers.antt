@@ -8,8 +8,7 @@ use native.Mathlib.Omega.{arith}
 use lib.ListN.{length, drop, length-append}
 use Rattle.records.specs.Records.{packed}
 use Rattle.records.specs.StepBack.{stepBack}
-use Rattle.row_reader.specs.Answer.{lineLimit}
-use Rattle.lines.specs.Lines.{FirstLine, DollarLine}
+use Rattle.lines.specs.Lines.{lineLimit, FirstLine, DollarLine}
 use Rattle.trace.specs.declared.Outcome.{Outcome}
 use Rattle.trace.specs.declared.Outcome.the-variants as outcome
 use Rattle.trace.specs.Trace.{sizeLimit, Trace, Line, Spells, Begins}

@@ -9,8 +9,7 @@ use Rattle.base.proofs.Tables.{every, at}
 use Rattle.fields.specs.Runs.{empty}
 use Rattle.fields.proofs.Runs.{all-append, all-of}
 use Rattle.record.specs.declared.Record.{Record}
-use Rattle.row_reader.specs.Answer.{lineLimit}
-use Rattle.lines.specs.Lines.{one, FirstLine, VersionLine, StartLine}
+use Rattle.lines.specs.Lines.{lineLimit, one, FirstLine, VersionLine, StartLine}
 use Rattle.trace.specs.Trace.{sizeLimit, Trace, Line, Body, over, comment, row, Spells, AreBytes, Begins}
 use Rattle.trace.specs.Promise.{Lines, none, line}
 use Rattle.lines.proofs.Theorems.{first-one, version-line-text, version-line-inside, startLine, start-line-text, start-line-inside}

@@ -7,9 +7,8 @@ use native.Mathlib.Omega.{arith}
 use lib.ListN.{length, length-append}
 use Rattle.record.specs.declared.Record.{Record}
 use Rattle.fields.specs.Runs.{All}
-use Rattle.row_reader.specs.Answer.{lineLimit}
 use Rattle.row.specs.Row.{Row}
-use Rattle.lines.specs.Lines.{Inside, FirstLine, VersionLine, StartLine, Comment, DollarLine}
+use Rattle.lines.specs.Lines.{lineLimit, Inside, FirstLine, VersionLine, StartLine, Comment, DollarLine}
 use Rattle.trace.specs.Trace.{sizeLimit, Trace, Line, Body, Spells, Begins}
 use Rattle.trace.specs.Trace.{over as body-over, comment as body-comment, row as body-row}
 use Rattle.trace.specs.Promise.{Lines, Reached, Barred, Refused}

@@ -6,8 +6,7 @@ use mathlib.Core.List.{List, [], _∷_, _++_}
 use native.Mathlib.Omega.{arith}
 use lib.ListN.{length, take, drop, length-drop, take-append-drop, drop-of-length-le}
 use lib.Seq.{slice, length-slice}
-use Rattle.row_reader.specs.Answer.{lineLimit}
-use Rattle.lines.specs.Lines.{FirstLine, VersionLine, StartLine}
+use Rattle.lines.specs.Lines.{lineLimit, FirstLine, VersionLine, StartLine}
 use Rattle.lines.specs.Answer.{VersionOr0, version, none}
 use Rattle.lines.proofs.Theorems.{version-known}
 use Rattle.trace.specs.Trace.{sizeLimit, Trace, Line, over, Spells}

@@ -6,8 +6,7 @@ use native.Mathlib.Omega.{arith}
 use lib.ListN.{length, take, drop, length-append}
 use lib.Seq.{slice, take-at, length-slice}
 use Rattle.fields.proofs.Window.{slice-drop}
-use Rattle.row_reader.specs.Answer.{lineLimit}
-use Rattle.lines.specs.Lines.{FirstLine}
+use Rattle.lines.specs.Lines.{lineLimit, FirstLine}
 use Rattle.trace.specs.Passes.{There}
 
 -- A lent part is the slice.

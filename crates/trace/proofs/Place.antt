@@ -5,8 +5,7 @@ use mathlib.Core.List.{List, [], _∷_, _++_, append-assoc, append-nil}
 use native.Mathlib.Omega.{arith}
 use lib.ListN.{length, length-append}
 use Rattle.fields.specs.Runs.{All}
-use Rattle.row_reader.specs.Answer.{lineLimit}
-use Rattle.lines.specs.Lines.{Inside, FirstLine}
+use Rattle.lines.specs.Lines.{lineLimit, Inside, FirstLine}
 use Rattle.trace.specs.declared.Outcome.the-variants as outcome
 use Rattle.trace.specs.Trace.{sizeLimit, Trace, Spells, Begins}
 use Rattle.trace.specs.Promise

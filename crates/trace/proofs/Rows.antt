@@ -14,7 +14,8 @@ use Rattle.record.specs.declared.Record.{Record}
 use Rattle.record.specs.Record.{recordOf}
 use Rattle.row.specs.Row.{Row}
 use Rattle.row.proofs.Plain.{row-plain}
-use Rattle.row_reader.specs.Answer.{lineLimit, RowFound, row-found, no-row}
+use Rattle.row_reader.specs.Answer.{RowFound, row-found, no-row}
+use Rattle.lines.specs.Lines.{lineLimit}
 use Rattle.row_reader.proofs.Whole.{framed}
 use Rattle.trace.specs.Trace.{Line}
 use Rattle.trace.specs.Passes.{There, mostHeld, Reaches, NoRow, RowAt, here, nowhere}

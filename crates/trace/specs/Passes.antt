@@ -1,5 +1,5 @@
 -- What the passes of the reader promise each other. No public promise cites this file.
-use Prim.Native.Nat.{ℕ, _+_, _*_, _≤_, _<_}
+use Prim.Native.Nat.{ℕ, _+_, _*_, _-_, _≤_, _<_}
 use mathlib.Core.Path.{_≡_}
 use mathlib.Core.List.{List, [], _∷_, _++_}
 use lib.ListN.{length, take, drop}
@@ -7,9 +7,9 @@ use Rattle.record.specs.declared.Record.{Record}
 use Rattle.record.specs.Promise.{fieldsOf}
 use Rattle.records.specs.Records.{packed}
 use Rattle.records.specs.StepBack.{stepBack}
-use Rattle.row_reader.specs.Answer.{lineLimit}
+use Rattle.fields.specs.Window.{windowBytes}
 use Rattle.row.specs.Row.{Row}
-use Rattle.lines.specs.Lines.{FirstLine, VersionLine, Comment, DollarLine}
+use Rattle.lines.specs.Lines.{lineLimit, FirstLine, VersionLine, Comment, DollarLine}
 use Rattle.trace.specs.declared.Other.{Other}
 use Rattle.trace.specs.declared.Other.the-variants as an
 use Rattle.trace.specs.declared.Heading.{Heading}
@@ -27,7 +27,7 @@ pub record There (text : List ℕ) (at next : ℕ) (line : List ℕ) : Type 0 wh
 
 -- The most bytes of the text in a window: one less than it has, since CR stands behind them.
 abbrev pub mostHeld : ℕ
-mostHeld = 4095
+mostHeld = windowBytes - 1
 
 -- The window holds the bytes of the text from a place on, and CR behind them. They are all that is left, or as many as there is room for.
 pub record Windowed (text : List ℕ) (from : ℕ) (w : List ℕ) : Type 0 where

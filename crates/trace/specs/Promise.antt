@@ -6,10 +6,9 @@ use mathlib.Core.List.{List, [], _∷_, _++_}
 use lib.ListN.{length, drop}
 use Rattle.records.specs.Records.{packed}
 use Rattle.records.specs.StepBack.{stepBack}
-use Rattle.row_reader.specs.Answer.{lineLimit}
 use Rattle.trace.specs.declared.Outcome.{Outcome}
 use Rattle.trace.specs.declared.Outcome.the-variants as outcome
-use Rattle.lines.specs.Lines.{FirstLine, DollarLine}
+use Rattle.lines.specs.Lines.{lineLimit, FirstLine, DollarLine}
 use Rattle.trace.specs.Trace.{sizeLimit, Trace, Line, Spells, Begins}
 
 -- Number, place, version, start, rows and first step back for each answer.

@@ -5,9 +5,8 @@ use mathlib.Core.List.{List, [], _∷_, _++_}
 use lib.ListN.{length}
 use Rattle.record.specs.declared.Record.{Record}
 use Rattle.fields.specs.Runs.{All}
-use Rattle.row_reader.specs.Answer.{lineLimit}
 use Rattle.row.specs.Row.{Row}
-use Rattle.lines.specs.Lines.{FirstLine, VersionLine, StartLine, Comment}
+use Rattle.lines.specs.Lines.{lineLimit, FirstLine, VersionLine, StartLine, Comment}
 
 -- The most bytes of a text.
 abbrev pub sizeLimit : ℕ

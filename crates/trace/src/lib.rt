@@ -1,6 +1,7 @@
 // A whole trace: read from text into packed records, in two passes. The first judges every line and counts, the second fills.
 use fields::WINDOW;
 use lines::Ending;
+use lines::LINE_LIMIT;
 use lines::Remark;
 use lines::StartTime;
 use record::of_fields;
@@ -14,6 +15,14 @@ ghost use lib.ListN.{length};
 ghost use Rattle.trace.specs.Trace.{sizeLimit};
 ghost use Rattle.trace.specs.Promise.{readNumbers, ReadPromise};
 ghost use Rattle.trace.specs.Passes.{Windowed, Reaches, RowAt, Says, Versioned, Headed, Heads, Judges, Fits, Filled};
+
+// The most bytes of a text.
+pub const SIZE_LIMIT: usize = 134_217_728;
+
+// How far from the start of a line its LF can stand, and the next line.
+const FEED: usize = LINE_LIMIT + 1;
+
+const ENDED: usize = LINE_LIMIT + 2;
 
 // The answer of `read`.
 pub enum Outcome {
@@ -65,7 +74,7 @@ fn head(text: &[u8]) -> Heading
             place: 1,
         };
     };
-    if 250 < e {
+    if LINE_LIMIT < e {
         return Heading::Bad {
             number: 3,
             place: 1,
@@ -99,7 +108,7 @@ fn second(text: &[u8], at: usize, version: u64) -> Heading
             place: 2,
         };
     };
-    if 250 < e - at {
+    if LINE_LIMIT < e - at {
         return Heading::Bad {
             number: 3,
             place: 2,
@@ -137,7 +146,7 @@ fn window_at(text: &[u8], at: usize, from: usize, w: &mut [u8; WINDOW]) -> usize
     requires { ⌜ Windowed (now text) from (now w) × (from ≤ at) × (at ≤ length (now text)) ⌝ }
     ensures { λ b. ⌜ Reaches (now (text .entry)) at b (now (w .exit)) ⌝ }
 {
-    if at - from <= WINDOW - 1 - 252 {
+    if at - from <= WINDOW - 1 - ENDED {
         return from;
     }
     fill_window(text, at, w);
@@ -163,7 +172,7 @@ fn row_at(
         return 0;
     }
     let feed = from + e;
-    if at + 251 < feed {
+    if at + FEED < feed {
         return 0;
     }
     if text.len() <= feed {
@@ -184,7 +193,7 @@ fn other_at(text: &[u8], at: usize) -> Other
     let Ending::At(e) = end else {
         return Other::Bad(2);
     };
-    if 250 < e - at {
+    if LINE_LIMIT < e - at {
         return Other::Bad(3);
     }
     let m = lines::remark_of(&text[at..e]);
@@ -302,7 +311,7 @@ fn body(text: &[u8], at: usize, version: u64, start: u64, out: &mut [u8]) -> Out
 pub fn read(text: &[u8], out: &mut [u8]) -> Outcome
     ensures { λ r. ⌜ ReadPromise (now (text .entry)) (now (out .entry)) (readNumbers r) (now (out .exit)) ⌝ }
 {
-    if 134217728 < text.len() {
+    if SIZE_LIMIT < text.len() {
         return Outcome::Refused {
             number: 1,
             place: 0,

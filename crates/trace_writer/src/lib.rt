@@ -1,6 +1,7 @@
 // A whole trace, written from packed records as the house spells it. The first pass judges and measures, the second writes.
 use base::put_byte;
 use base::put_text;
+use clock::DAY_MS;
 use clock::START_LIMIT;
 use clock::day_fraction;
 use digits::Letters;
@@ -68,9 +69,9 @@ fn put_start_line(out: &mut [u8], at: usize, start: u64) -> usize
     ensures { λ r. ⌜ Wrote (now (out .entry)) (now (out .exit)) at r (ended (startLineText start)) ⌝ }
 {
     let p = put_text(out, at, b";$STARTTIME=");
-    let q = put_decimal(out, p, start / 86400000);
+    let q = put_decimal(out, p, start / DAY_MS);
     let s = put_byte(out, q, 46);
-    let t = put_padded(out, s, 10, day_fraction(start % 86400000));
+    let t = put_padded(out, s, 10, day_fraction(start % DAY_MS));
     put_end(out, t)
 }
 
@@ -81,7 +82,7 @@ const HEAD: usize = 16 + 1 + 2 + 12 + 1 + 10 + 2;
 fn head_length(version: u64, start: u64) -> usize
     ensures { λ r. ⌜ (r ≡ length (headText version start)) × (r ≤ 64) ⌝ }
 {
-    decimal_length(start / 86400000) + HEAD
+    decimal_length(start / DAY_MS) + HEAD
 }
 
 // Whether a version can carry a record.

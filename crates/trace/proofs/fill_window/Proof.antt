@@ -5,6 +5,7 @@ use native.Mathlib.Omega.{arith}
 use borrow.Author.Needs.{needs}
 use lib.ListN.{length, drop, length-drop}
 use lib.Seq.{length-take-le}
+use Rattle.trace.specs.Passes.{mostHeld}
 use Rattle.trace.proofs.fill_window.Statement.{statement}
 use Rattle.trace.proofs.fill_window.Tie as tie
 
@@ -23,5 +24,5 @@ fill-window-spec =
     (λ c. omega arith)
     (λ c. omega arith)
     (λ c. omega arith)
-    (λ c κs. let a = c .before .before .before .before .args in omega (arith, length-take-le (a .from + 4095 - a .from) (drop (a .from) (a .text .now)) (omega (arith, length-drop (a .from) (a .text .now)))))
-    (λ c. let n : c .before .before .before .before .before .args .from + 4095 - c .before .before .before .before .before .args .from ≡ 4095 = omega arith in record { held = 4095; behind = _; bytes = rw n at (c .window2 .ensures); within = omega arith; most = λ h. omega arith }))
+    (λ c κs. let a = c .before .before .before .before .args in omega (arith, length-take-le (a .from + mostHeld - a .from) (drop (a .from) (a .text .now)) (omega (arith, length-drop (a .from) (a .text .now)))))
+    (λ c. let n : c .before .before .before .before .before .args .from + mostHeld - c .before .before .before .before .before .args .from ≡ mostHeld = omega arith in record { held = mostHeld; behind = _; bytes = rw n at (c .window2 .ensures); within = omega arith; most = λ h. omega arith }))
