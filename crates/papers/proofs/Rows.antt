@@ -48,7 +48,7 @@ parted i (f ∷ g ∷ fs) t =
     first (leb→le 1 (length f) (both-left s b u)) (no-blank f (both-right s b u)) (halt (λ n. n refl)) (blank (parted (suc i) (g ∷ fs) v)) refl
 
 -- so that they are those of any row.
-fields-of : {v k : ℕ} {r : Record} (fs : List (List ℕ)) → T (solid 0 fs) → Row.Row v k r (joined fs) → Row.RowFields v k r fs
+pub fields-of : {v k : ℕ} {r : Record} (fs : List (List ℕ)) → T (solid 0 fs) → Row.Row v k r (joined fs) → Row.RowFields v k r fs
 fields-of {v} {k} {r} fs t w = subst (Row.RowFields v k r) (parted-one (w .parted) (parted 0 fs t)) (w .row)
 
 from-rx : {r : Record} {fs : List (List ℕ)} → Row.FromMark r (markRx ∷ fs) → Row.FrameId 0 r fs
@@ -58,7 +58,7 @@ from-rx (Row.warng e i) = absurd (omega (arith, ap length e))
 from-rx (Row.error e i) = absurd (omega (arith, ap length e))
 
 -- The fields of a received frame, from the ID on.
-frame : {k : ℕ} {r : Record} {n o : List ℕ} {fs : List (List ℕ)} → Row.RowFields 11 k r (n ∷ o ∷ markRx ∷ fs) → Row.FrameId 0 r fs
+pub frame : {k : ℕ} {r : Record} {n o : List ℕ} {fs : List (List ℕ)} → Row.RowFields 11 k r (n ∷ o ∷ markRx ∷ fs) → Row.FrameId 0 r fs
 frame (Row.number a (Row.one b c m)) = from-rx m
 
 -- 0800 and 20000000 are no IDs.

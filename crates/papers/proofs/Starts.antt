@@ -41,9 +41,10 @@ gives days digits parts ms d o t p s l =
       limit = l;
     }
 
-pub gives-only : (days digits parts : ℕ) {ms : ℕ} → parts < 10 ^ digits → StartLine ms (startLine days digits parts)
-    → Start days parts digits ms
-gives-only days digits parts p s =
+-- The day count and the fraction of such a line are no others.
+pub parts-of : (days digits parts : ℕ) {ms : ℕ} → parts < 10 ^ digits → (s : StartLine ms (startLine days digits parts))
+    → (s .days ≡ days) × (s .parts ≡ parts) × (length (s .fraction) ≡ digits)
+parts-of days digits parts p s =
     let d = decimal-spells days in
     let f = padded-spells digits parts p in
     let e : startText ++ (decimalText days ++ (46 ∷ paddedText digits parts))
@@ -55,5 +56,8 @@ gives-only days digits parts p s =
     let y = cut (digits-all (f .digits)) (digits-all (s .digits .digits)) over (blanks-stop (s .blank-end)) (append-nil (paddedText digits parts) ∙ g) in
     let n : s .days ≡ days = one-decimal (s .count) (rw (x .0) at d) in
     let m : s .parts ≡ parts = one-padded (s .digits) (rw (y .0) at f) in
-    let w : length (s .fraction) ≡ digits = ap length (sym (y .0)) ∙ length-fixed figureOf 10 digits parts in
-    rw (n, m, w) at (s .is)
+    (n, m, ap length (sym (y .0)) ∙ length-fixed figureOf 10 digits parts)
+
+pub gives-only : (days digits parts : ℕ) {ms : ℕ} → parts < 10 ^ digits → StartLine ms (startLine days digits parts)
+    → Start days parts digits ms
+gives-only days digits parts p s = let o = parts-of days digits parts p s in rw (o .0, o .1, o .2) at (s .is)

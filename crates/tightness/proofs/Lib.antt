@@ -1,6 +1,8 @@
 pub mod Entry
 pub mod Exporters
 pub mod Lines
+pub mod Whole
+pub mod Lost
 pub mod Numbers
 pub mod Readers
 pub mod Real

@@ -6,31 +6,18 @@ use mathlib.Core.List.{List, [], _∷_}
 use native.Mathlib.Omega.{arith}
 use lib.ListN.{length, getD}
 use Rattle.fields.specs.Runs.{All, more, Stops, halt}
-use Rattle.fields.specs.Columns.{NumberField, OffsetField, BusField, IdField, standard, long, LengthField, Capital, remoteText}
+use Rattle.fields.specs.Columns.{IdField, standard, long, Capital, remoteText}
 use Rattle.fields.specs.Window.{Solid, FieldAt}
 use Rattle.record.specs.declared.Record.{Record}
 use Rattle.row.specs.Row
 use Rattle.row.specs.Carries.{Carries, v11}
-use Rattle.lines.specs.Lines.{VersionText, one, two, VersionLine, StartLine}
+use Rattle.lines.specs.Lines.{VersionText, one, two, VersionLine}
 
 -- fields
 
 -- `[`, the byte behind `Z`, is in no word
 pub bracket-in-a-word : All Capital (91 ∷ []) → ⊥
 bracket-in-a-word (more p q) = omega (arith, p .high)
-
-pub million-as-number : {f : List ℕ} → NumberField 1000000 f → ⊥
-million-as-number p = omega (arith, p .high)
-
-pub seventeen-is-a-bus : {f : List ℕ} → BusField 17 f → ⊥
-seventeen-is-a-bus p = omega (arith, p .high)
-
-pub nine-is-a-length : {f : List ℕ} → LengthField 9 f → ⊥
-nine-is-a-length p = omega (arith, p .small)
-
--- two digits behind the point are not three
-pub two-digits-of-three : {offset : ℕ} {f : List ℕ} → (o : OffsetField 3 offset f) → length (o .part) ≡ 2 → ⊥
-two-digits-of-three o e = omega (arith, o .second .width)
 
 -- LF ends no field
 pub feed-ends : {f rest s : List ℕ} → FieldAt f (10 ∷ rest) s → ⊥
@@ -89,10 +76,3 @@ version-three l = go (l .is)
 pub wrong-letter : {v : ℕ} {s : List ℕ} → VersionText v s → getD s 1 0 ≡ 71 → ⊥
 wrong-letter (one e) h = omega (arith, ap (λ (x : List ℕ). getD x 1 0) e)
 wrong-letter (two e) h = omega (arith, ap (λ (x : List ℕ). getD x 1 0) e)
-
--- a day count has five digits at the most, and its fraction ten
-pub six-day-digits : {start : ℕ} {line : List ℕ} (l : StartLine start line) → length (l .day) ≡ 6 → ⊥
-six-day-digits l e = omega (arith, l .few)
-
-pub eleven-fraction-digits : {start : ℕ} {line : List ℕ} (l : StartLine start line) → length (l .fraction) ≡ 11 → ⊥
-eleven-fraction-digits l e = omega (arith, l .short)

@@ -72,9 +72,6 @@ pair-swapped p e = omega (arith, p .high 1 (omega arith))
 pub kind-for-bus : recordOf (1 ∷ 2 ∷ 3 ∷ 4 ∷ 5 ∷ 6 ∷ 7 ∷ []) .bus ≡ 3 → ⊥
 kind-for-bus e = omega arith
 
-pub bus-17 : {r : Record} → WellFormed r → r .bus ≡ 17 → ⊥
-bus-17 f e = omega (arith, f .bus)
-
 -- a remote record has no data, and no byte stands past the length
 pub remote-data : {r : Record} → WellFormed r → r .kind ≡ 2 → r .«data» ≢ 0 → ⊥
 remote-data f e n = n (f .remote (inl e))

@@ -4,7 +4,9 @@ use mathlib.Core.Path.{_≡_, refl, ap, _∙_}
 use mathlib.Core.Logic.{_≢_, _⊎_, inl, inr, ⊎-elim}
 use mathlib.Core.List.{List, [], _∷_, _++_}
 use native.Mathlib.Omega.{arith}
-use lib.ListN.{length, drop}
+use mathlib.Core.Bool.{true, false}
+use lib.ListN.{length, getD, drop}
+use Rattle.base.specs.Decides.{Decides}
 use Rattle.digits.specs.Digits.{DecimalDigit, Digits, HexDigit, capital, small, figure, letter, none, more, Hex}
 use Rattle.digits.specs.Answer.{ReadDecimal, ReadPadded, ReadHex}
 use Rattle.digits.specs.declared.Letters.the-variants.{Capital as CapitalLetters}
@@ -180,3 +182,10 @@ tab-taken l = go (l .blanks) (l .is) (l .blank-end) (l .bytes)
     go empty (version-11 e) q h = let d = rw e at h in let z : _≡_ {A = ℕ} 50 49 = cc in omega arith
     go empty (version-12 e) empty h = let d = rw e at h in omega (arith, ap length d)
     go empty (version-12 e) (and {b = x} p b) h = let d = rw e at h in let z : 9 ≡ x = cc in omega arith
+
+-- the line ends at CR, and not at LF
+pub return-passed : (s : List ℕ) → Decides (getD (13 ∷ s) 0 0 ≡ 13) false → ⊥
+return-passed s f = f refl
+
+pub feed-as-return : (s : List ℕ) → Decides (getD (10 ∷ s) 0 0 ≡ 13) true → ⊥
+feed-as-return s e = omega arith
