@@ -6,19 +6,18 @@ use native.Mathlib.Decide.{ℕ-discrete}
 use native.Mathlib.Omega.{arith}
 use borrow.Author.Tests.{eq-eqb, ne-eqb}
 use lib.ListN.{length, length-append, drop-of-length-le}
+use Rattle.base.specs.Spaced.{spaced}
 use Rattle.base.specs.Wrote.{Wrote}
 use Rattle.base.proofs.Lists.{at-start}
+use Rattle.base.proofs.Spaced.{spaced-none, spaced-more, spaced-append}
 use Rattle.digits.specs.declared.Letters.the-variants.{Small}
-use Rattle.digits.specs.House.{decimalText, paddedText, hexText}
+use Rattle.digits.specs.House.{decimalText, paddedText, hexText, byteTexts}
+use Rattle.digits.proofs.ByteTexts.{length-bytes}
 use Rattle.digits.proofs.House.{length-fixed, few}
 use Rattle.clock.specs.declared.CalendarDay.{CalendarDay}
 use Rattle.clock.specs.declared.DayTime.{DayTime}
 use Rattle.clock.specs.declared.DateTime.{DateTime}
 use Rattle.record.specs.declared.Record.{Record}
-use Rattle.row.specs.House.{byteTexts}
-use Rattle.row_writer.specs.Parts.{spaced}
-use Rattle.row_writer.proofs.Rows.{spaced-none, spaced-more, spaced-append}
-use Rattle.row_writer.proofs.Bytes.{length-bytes}
 use Rattle.ascii_line.specs.Line.{dateText, timeText, stampText, typeText, extendedTexts, directionText, idText, partTexts, lineText}
 use Rattle.ascii_line.specs.Parts.{clockText, secondText, sourceText, barText, wayText, dataText, restText, frameText}
 

@@ -2,13 +2,12 @@
 use Prim.Native.Nat.{ℕ, _+_, _^_}
 use mathlib.Core.Path.{_≡_}
 use mathlib.Core.List.{List, [], _∷_, _++_}
+use Rattle.base.specs.Spaced.{spaced}
 use Rattle.digits.specs.declared.Letters.the-variants.{Small}
-use Rattle.digits.specs.House.{decimalText, paddedText}
+use Rattle.digits.specs.House.{decimalText, paddedText, byteTexts}
 use Rattle.clock.specs.declared.DayTime.{DayTime}
 use Rattle.clock.specs.declared.DateTime.{DateTime}
 use Rattle.record.specs.declared.Record.{Record}
-use Rattle.row.specs.House.{byteTexts}
-use Rattle.row_writer.specs.Parts.{spaced}
 use Rattle.ascii_line.specs.Line.{dateText, typeText, extendedTexts, directionText, idText}
 
 -- `hh:mm:ss.`

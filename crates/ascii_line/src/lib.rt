@@ -1,5 +1,6 @@
 // One line of Telemotive ASCII: the line of one record, and how many bytes that is.
 use base::put_byte;
+use base::put_end;
 use base::put_text;
 use clock::CalendarDay;
 use clock::DateTime;
@@ -9,8 +10,8 @@ use digits::decimal_length;
 use digits::put_decimal;
 use digits::put_hex;
 use digits::put_padded;
+use digits::put_pairs;
 use record::Record;
-use row_writer::put_pairs;
 ghost use mathlib.Core.Path.{_≡_};
 ghost use mathlib.Core.List.{_∷_};
 ghost use Prim.Native.Nat.{_+_, _≤_};
@@ -123,7 +124,7 @@ fn put_rest(out: &mut [u8], at: usize, r: Record, pairs: &[u8; 512]) -> usize
 {
     let p = put_id(out, at, r);
     let q = put_data(out, p, r, pairs);
-    put_text(out, q, b"\r\n")
+    put_end(out, q)
 }
 
 // What stands behind the stamp, and CR LF.

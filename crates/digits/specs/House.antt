@@ -40,6 +40,11 @@ paddedText w n = fixed figureOf 10 w n
 abbrev pub hexText : Letters → ℕ → ℕ → List ℕ
 hexText c w n = fixed (glyphOf c) 16 w n
 
+-- n bytes of a number, the first of them with this place value, each in two digits.
+unfoldable pub byteTexts : Letters → ℕ → ℕ → ℕ → List (List ℕ)
+byteTexts letters place zero sum = []
+byteTexts letters place (suc n) sum = hexText letters 2 (sum / place % 256) ∷ byteTexts letters (place / 256) n sum
+
 -- n in decimal without leading zeros, if it has at most k + 1 digits.
 unfoldable pub spell : ℕ → ℕ → List ℕ
 spell zero n = (48 + n) ∷ []

@@ -1,14 +1,18 @@
 // Numbers as digit strings: read from bytes, and written as the house spells them.
 use base::put_text;
+use base::put_three;
 use base::wide;
 ghost use mathlib.Core.Path.{_≡_};
-ghost use Prim.Native.Nat.{_+_, _≤_, _<_};
+ghost use mathlib.Core.List.{_∷_};
+ghost use Prim.Native.Nat.{_+_, _*_, _^_, _≤_, _<_};
 ghost use lib.ListN.{length, take};
 ghost use Rattle.base.specs.Decides.{Decides};
+ghost use Rattle.base.specs.Spaced.{spaced};
 ghost use Rattle.base.specs.Wrote.{Wrote};
+ghost use Rattle.digits.specs.declared.Letters.{Letters};
 ghost use Rattle.digits.specs.Answer.{Answers, DigitOr255, ReadDecimal, ReadPadded, ReadHex};
 ghost use Rattle.digits.specs.Digits.{HexDigit, IsHex};
-ghost use Rattle.digits.specs.House.{glyphOf, PairsOf, paddedText, hexText, decimalText};
+ghost use Rattle.digits.specs.House.{glyphOf, PairsOf, paddedText, hexText, decimalText, byteTexts};
 
 pub enum Number {
     Value(u64),
@@ -267,4 +271,28 @@ pub fn put_hex(out: &mut [u8], at: usize, w: usize, n: u64, letters: Letters) ->
         m /= 16;
     }
     at + w
+}
+
+// One byte behind one blank, from the table of pairs: the calls of `put_hex` for each digit would double the time that a row takes.
+fn put_pair(out: &mut [u8], at: usize, b: u64, pairs: &[u8; 512]) -> usize
+    requires { ⌜ (b < 256) × (at + 3 ≤ length (now out)) ⌝ }
+    ensures { λ r. ⌜ ((x : Letters) → PairsOf x (now (pairs .entry)) → Wrote (now (out .entry)) (now (out .exit)) at r (32 ∷ hexText x 2 b)) ⌝ }
+    ensures { λ r. ⌜ r ≡ at + 3 ⌝ }
+{
+    let i = 2 * b as usize;
+    put_three(out, at, 32, pairs[i], pairs[i + 1])
+}
+
+// The first n of the eight bytes of a word, each behind one blank, in the letter case of the table of pairs.
+pub fn put_pairs(out: &mut [u8], at: usize, n: u64, word: u64, pairs: &[u8; 512]) -> usize
+    requires { ⌜ (n ≤ 8) × (at + 3 * n ≤ length (now out)) ⌝ }
+    ensures { λ r. ⌜ ((x : Letters) → PairsOf x (now (pairs .entry)) → Wrote (now (out .entry)) (now (out .exit)) at r (spaced (byteTexts x (256 ^ 7) n word))) ⌝ }
+{
+    let mut p = at;
+    let mut j: u64 = 1;
+    while j <= n {
+        p = put_pair(out, p, (word >> (64 - 8 * j)) % 256, pairs);
+        j += 1;
+    }
+    p
 }

@@ -1,12 +1,13 @@
 -- Rows of received frames: fields joined by blanks, and which record they are a row of.
 use Prim.Native.Nat.{ℕ, suc, _+_, _^_, _≤_, _<_}
-use mathlib.Core.Path.{_≡_, refl, ap, sym, subst}
+use mathlib.Core.Path.{_≡_, refl, ap, subst}
 use mathlib.Core.Bool.{Bool}
-use mathlib.Core.List.{List, [], _∷_, append-nil}
+use mathlib.Core.List.{List, [], _∷_}
 use native.Mathlib.Nat.{zero-mod}
 use native.Mathlib.Omega.{arith}
 use lib.Dec.{T, leb, leb→le}
 use lib.ListN.{length, getD}
+use Rattle.base.specs.Spaced.{spaced, joined}
 use Rattle.base.proofs.Tables.{both, both-left, both-right, every, at}
 use Rattle.digits.specs.declared.Letters.the-variants.{Capital}
 use Rattle.digits.specs.Digits.{Hex}
@@ -20,7 +21,6 @@ use Rattle.fields.proofs.Parts.{parted-one, first}
 use Rattle.record.specs.declared.Record.{Record}
 use Rattle.record.specs.Record.{WellFormed}
 use Rattle.row.specs.Row
-use Rattle.row.specs.House.{joined}
 use Rattle.papers.specs.Text.{text}
 use Rattle.papers.specs.Cases.{received}
 
@@ -33,13 +33,13 @@ no-blank f t = all-of f (λ k h. let l = leb→le 33 (getD f k 0) (at (λ j b. l
 
 -- Such fields, joined, are parted into them;
 parted : (i : ℕ) (fs : List (List ℕ)) → T (solid i fs) → Parted fs (joined fs)
-unfolding joined
+unfolding spaced joined
 parted i [] t = none
 parted i (f ∷ []) t =
     let s = leb 1 (length f) in
     let b = every (λ j b. leb 33 b) 0 f in
     let u = both-left (both s b) _ t in
-    first (leb→le 1 (length f) (both-left s b u)) (no-blank f (both-right s b u)) over none (sym (append-nil f))
+    first (leb→le 1 (length f) (both-left s b u)) (no-blank f (both-right s b u)) over none refl
 parted i (f ∷ g ∷ fs) t =
     let s = leb 1 (length f) in
     let b = every (λ j b. leb 33 b) 0 f in
@@ -95,21 +95,21 @@ no-0A e (Row.remote k d f) = let z : _≡_ {A = ℕ} 48 82 = cc in omega arith
 -- The rows that are refused.
 
 pub row-0800 : (r : Record) → Row.Row 11 1 r (text "1) 0.0 Rx 0800 0") → ⊥
-unfolding joined
+unfolding spaced joined
 row-0800 r w = go (frame (fields-of (text "1)" ∷ text "0.0" ∷ text "Rx" ∷ text "0800" ∷ text "0" ∷ []) tt w))
   where
     go : Row.FrameId 0 r (text "0800" ∷ text "0" ∷ []) → ⊥
     go (Row.frame-id i l) = no-800 i
 
 pub row-20000000 : (r : Record) → Row.Row 11 1 r (text "1) 0.0 Rx 20000000 0") → ⊥
-unfolding joined
+unfolding spaced joined
 row-20000000 r w = go (frame (fields-of (text "1)" ∷ text "0.0" ∷ text "Rx" ∷ text "20000000" ∷ text "0" ∷ []) tt w))
   where
     go : Row.FrameId 0 r (text "20000000" ∷ text "0" ∷ []) → ⊥
     go (Row.frame-id i l) = no-20000000 i
 
 pub row-0-byte : (r : Record) → Row.Row 11 1 r (text "1) 0.0 Rx 0123 0 0A") → ⊥
-unfolding joined
+unfolding spaced joined
 row-0-byte r w = go (frame (fields-of (text "1)" ∷ text "0.0" ∷ text "Rx" ∷ text "0123" ∷ text "0" ∷ text "0A" ∷ []) tt w))
   where
     go : Row.FrameId 0 r (text "0123" ∷ text "0" ∷ text "0A" ∷ []) → ⊥

@@ -4,7 +4,8 @@ use mathlib.Core.Path.{_≡_, refl}
 use mathlib.Core.Logic.{⊎-elim}
 use native.Mathlib.Omega.{arith}
 use lib.ListN.{length}
-use Rattle.digits.specs.House.{glyphOf, fixed, spell, decimalText}
+use Rattle.base.specs.Spaced.{spaced, joined}
+use Rattle.digits.specs.House.{glyphOf, fixed, spell, decimalText, byteTexts}
 use Rattle.clock.specs.Start.{dayMs}
 use Rattle.clock.proofs.Cases.{day-0, day-37704, day-39878, past-limit, leap-day}
 use Rattle.lines.specs.Lines.{StartLine}
@@ -13,7 +14,7 @@ use Rattle.record.specs.Bytes.{bytes}
 use Rattle.record.specs.Record.{WellFormed, number, Packs}
 use Rattle.row.specs.Row.{Row}
 use Rattle.row.specs.Carries.{v11, v12}
-use Rattle.row.specs.House.{joined, numberText, offsetText, busTexts, markText, idText, byteTexts, dataTexts, rowTexts, rowText}
+use Rattle.row.specs.House.{numberText, offsetText, busTexts, markText, idText, dataTexts, rowTexts, rowText}
 use Rattle.row.proofs.Spelled.{row-spelled}
 use Rattle.papers.specs.Cases.{Holds, received, table, Every, none, more}
 use Rattle.papers.proofs.Starts.{startLine, gives, gives-only}
@@ -57,7 +58,7 @@ late ms s = omega (arith, s .limit, past-limit ms (gives-only 99999 10 999999999
 
 -- Every case holds.
 pub papers : Every Holds table
-unfolding bytes joined numberText offsetText busTexts markText idText byteTexts dataTexts rowTexts decimalText spell fixed glyphOf
+unfolding bytes spaced joined numberText offsetText busTexts markText idText byteTexts dataTexts rowTexts decimalText spell fixed glyphOf
 papers =
     more (gives 0 1 0 0 (omega arith) (omega arith) (omega arith) (omega arith) day-0 (omega arith))
     (more (gives 37704 10 5364870833 3257671952484 (omega arith) (omega arith) (omega arith) (omega arith) day-37704 (omega arith))

@@ -10,7 +10,8 @@ use lib.ListN.{length}
 use Rattle.base.specs.Limits.{offsetLimit}
 use Rattle.digits.specs.declared.Letters.the-variants.{Capital}
 use Rattle.digits.specs.Digits.{Hex}
-use Rattle.digits.specs.House.{decimalText, paddedText, hexText}
+use Rattle.digits.specs.House.{decimalText, paddedText, hexText, byteTexts}
+use Rattle.digits.proofs.ByteTexts.{bytes-none, bytes-more}
 use Rattle.digits.proofs.House.{few, decimal-spells, padded-spells}
 use Rattle.digits.proofs.Theorems.{hex-spells}
 use Rattle.fields.specs.Columns.{NumberField, OffsetField, IdField, standard, long, LengthField, lastNumber}
@@ -19,11 +20,11 @@ use Rattle.record.specs.declared.Record.{Record}
 use Rattle.record.specs.Record.{WellFormed}
 use Rattle.row.specs.Row
 use Rattle.row.specs.Carries.{Carries, v11, v12}
-use Rattle.row.specs.House.{numberText, markText, idText, byteTexts, dataTexts, rowTexts, rowText}
+use Rattle.row.specs.House.{numberText, markText, idText, dataTexts, rowTexts, rowText}
 use Rattle.row.proofs.Fields.{each-map}
 use Rattle.row.proofs.Formed.{error-small}
 use Rattle.row.proofs.Plain.{fields-plain}
-use Rattle.row.proofs.Texts.{joined-short, parted-joined, number-text, offset-text, mark-text, id-frame, id-warning, bytes-none, bytes-more, data-remote, data-bytes, markTexts, row-texts, row-texts-11, row-texts-12, row-sized}
+use Rattle.row.proofs.Texts.{joined-short, parted-joined, number-text, offset-text, mark-text, id-frame, id-warning, data-remote, data-bytes, markTexts, row-texts, row-texts-11, row-texts-12, row-sized}
 
 -- Place value: the byte at 256 ^ m of a number, and those below it.
 high : (whole m : ℕ) → whole % 256 ^ suc m ≡ whole / 256 ^ m % 256 * 256 ^ m + whole % 256 ^ m

@@ -9,9 +9,12 @@ use borrow.Author.Tests.{eq-eqb, ne-eqb}
 use lib.Dec.{leb, leb→le}
 use lib.ListN.{length, getD, length-append}
 use Rattle.base.specs.Limits.{offsetLimit}
+use Rattle.base.specs.Spaced.{joined}
+use Rattle.base.proofs.Spaced.{spaced-none, spaced-more, joined-none, joined-more}
 use Rattle.base.proofs.Tables.{both, both-left, both-right, at}
 use Rattle.digits.specs.declared.Letters.the-variants.{Capital}
-use Rattle.digits.specs.House.{decimalText, paddedText, hexText, glyphOf, figureOf}
+use Rattle.digits.specs.House.{decimalText, paddedText, hexText, glyphOf, figureOf, byteTexts}
+use Rattle.digits.proofs.ByteTexts.{bytes-none, bytes-more}
 use Rattle.digits.proofs.House.{length-fixed, few, decimal-spells}
 use Rattle.fields.specs.Columns.{remoteText, lastNumber}
 use Rattle.fields.specs.Runs.{All, over, halt}
@@ -19,23 +22,17 @@ use Rattle.fields.specs.Parted.{NoBlank, Parted, none, blank}
 use Rattle.fields.proofs.Parts.{first}
 use Rattle.record.specs.declared.Record.{Record}
 use Rattle.record.specs.Record.{WellFormed}
-use Rattle.row.specs.House.{joined, numberText, offsetText, busTexts, marks, markText, idText, byteTexts, dataTexts, fractionDigits, rowTexts}
+use Rattle.row.specs.House.{numberText, offsetText, busTexts, marks, markText, idText, dataTexts, fractionDigits, rowTexts}
 use Rattle.row.specs.Carries.{Carries, v11, v12}
 use Rattle.row.proofs.Fields.{Each, no-more, then}
 
 -- Joined fields, case by case.
 
-pub joined-none : joined [] ≡ []
-unfolding joined
-joined-none = refl
+joined-last : (f : List ℕ) → joined (f ∷ []) ≡ f ++ []
+joined-last f = rw (joined-more, spaced-none)
 
-pub joined-last : (f : List ℕ) → joined (f ∷ []) ≡ f
-unfolding joined
-joined-last f = refl
-
-pub joined-more : (f g : List ℕ) (fs : List (List ℕ)) → joined (f ∷ g ∷ fs) ≡ f ++ (32 ∷ joined (g ∷ fs))
-unfolding joined
-joined-more f g fs = refl
+joined-two : (f g : List ℕ) (fs : List (List ℕ)) → joined (f ∷ g ∷ fs) ≡ f ++ (32 ∷ joined (g ∷ fs))
+joined-two f g fs = rw (joined-more, joined-more, spaced-more)
 
 -- No field is empty, and with a blank behind each they have at most n bytes.
 pub data Sized : ℕ → List (List ℕ) → Type 0 where
@@ -44,17 +41,17 @@ pub data Sized : ℕ → List (List ℕ) → Type 0 where
 
 -- With a blank between two only, they have less.
 pub joined-short : {n : ℕ} {f : List ℕ} {fs : List (List ℕ)} → Sized n (f ∷ fs) → length (joined (f ∷ fs)) < n
-joined-short {f = f} (one s l nil) = rw joined-last (omega arith)
+joined-short {f = f} (one s l nil) = rw (joined-last, append-nil f) (omega arith)
 joined-short {f = f} (one s l (one {f = g} {fs = fs} t k e)) =
     let i = joined-short {f = g} {fs = fs} (one t k e) in
-    rw (joined-more f g fs) (omega (arith, length-append f (32 ∷ joined (g ∷ fs))))
+    rw (joined-two f g fs) (omega (arith, length-append f (32 ∷ joined (g ∷ fs))))
 
 -- What is joined of fields without blanks is parted into them.
 pub parted-joined : {n : ℕ} {fs : List (List ℕ)} → Sized n fs → Each (All NoBlank) fs → Parted fs (joined fs)
 parted-joined nil no-more = rw joined-none none
-parted-joined (one {f = f} s l nil) (then p no-more) = first s p over none (joined-last f ∙ sym (append-nil f))
+parted-joined (one {f = f} s l nil) (then p no-more) = first s p over none (joined-last f)
 parted-joined (one {f = f} s l (one {f = g} {fs = fs} t k e)) (then p (then q c)) =
-    first s p (halt (λ n. n refl)) (blank (parted-joined (one t k e) (then q c))) (joined-more f g fs)
+    first s p (halt (λ n. n refl)) (blank (parted-joined (one t k e) (then q c))) (joined-two f g fs)
 
 -- Each text, as it is defined.
 
@@ -86,15 +83,6 @@ id-frame r n = rw (ne-eqb (r .kind) 4 n)
 pub id-warning : (r : Record) → r .kind ≡ 4 → idText r ≡ hexText Capital 8 0xFFFFFFFF
 unfolding idText
 id-warning r e = rw (eq-eqb (r .kind) 4 e)
-
-pub bytes-none : (place sum : ℕ) → byteTexts Capital place 0 sum ≡ []
-unfolding byteTexts
-bytes-none place sum = refl
-
-pub bytes-more : (place n sum : ℕ) → byteTexts Capital place (suc n) sum
-    ≡ hexText Capital 2 (sum / place % 256) ∷ byteTexts Capital (place / 256) n sum
-unfolding byteTexts
-bytes-more place n sum = refl
 
 pub data-remote : (r : Record) → r .kind / 2 ≡ 1 → dataTexts r ≡ remoteText ∷ []
 unfolding dataTexts

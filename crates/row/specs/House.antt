@@ -1,20 +1,14 @@
 -- The house spelling of a row: one blank between fields, none at the ends, capital hexadecimal, no words, decimal without leading zeros.
-use Prim.Native.Nat.{ℕ, zero, suc, _+_, _*_, _-_, _/_, _%_, _^_}
+use Prim.Native.Nat.{ℕ, _+_, _*_, _-_, _/_, _%_, _^_}
 use mathlib.Core.Bool.{cond}
 use mathlib.Core.List.{List, [], _∷_, _++_}
 use lib.Dec.{eqb}
 use lib.ListN.{getD}
-use Rattle.digits.specs.declared.Letters.{Letters}
+use Rattle.base.specs.Spaced.{joined}
 use Rattle.digits.specs.declared.Letters.the-variants.{Capital}
-use Rattle.digits.specs.House.{decimalText, paddedText, hexText}
+use Rattle.digits.specs.House.{decimalText, paddedText, hexText, byteTexts}
 use Rattle.record.specs.declared.Record.{Record}
 use Rattle.fields.specs.Columns.{markRx, markTx, markWarng, markError, remoteText}
-
--- Fields with one blank between two.
-unfoldable pub joined : List (List ℕ) → List ℕ
-joined [] = []
-joined (f ∷ []) = f
-joined (f ∷ g ∷ fs) = f ++ (32 ∷ joined (g ∷ fs))
 
 -- The number of digits behind the offset's point: one in version 1.1, three in version 1.2.
 abbrev pub fractionDigits : ℕ → ℕ
@@ -42,11 +36,6 @@ markText kind = getD marks kind []
 -- Eight F for a warning; else eight digits if extended, and four if not.
 unfoldable pub idText : Record → List ℕ
 idText r = cond (eqb (r .kind) 4) (hexText Capital 8 0xFFFFFFFF) (hexText Capital (4 + 4 * r .extended) (r .id))
-
--- n bytes, the first of them with this place value, each in two digits.
-unfoldable pub byteTexts : Letters → ℕ → ℕ → ℕ → List (List ℕ)
-byteTexts letters place zero sum = []
-byteTexts letters place (suc n) sum = hexText letters 2 (sum / place % 256) ∷ byteTexts letters (place / 256) n sum
 
 -- `RTR` for a remote frame, else the bytes.
 unfoldable pub dataTexts : Record → List (List ℕ)

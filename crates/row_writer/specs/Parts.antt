@@ -1,14 +1,8 @@
--- The parts of a row, as the writer's functions promise them to each other. `spaced` stands in the promise of `put_pairs` and in the lines of
--- the export.
+-- The parts of a row, as the writer's functions promise them to each other.
 use Prim.Native.Nat.{ℕ, _+_}
-use mathlib.Core.List.{List, [], _∷_, _++_}
+use mathlib.Core.List.{List, [], _∷_}
 use Rattle.record.specs.declared.Record.{Record}
 use Rattle.row.specs.House.{numberText, offsetText, busTexts, markText, idText, dataTexts}
-
--- Fields, each behind one blank.
-unfoldable pub spaced : List (List ℕ) → List ℕ
-spaced [] = []
-spaced (f ∷ fs) = 32 ∷ (f ++ spaced fs)
 
 -- The fields before the mark.
 abbrev pub headTexts : ℕ → ℕ → Record → List (List ℕ)

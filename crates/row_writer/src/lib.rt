@@ -1,35 +1,27 @@
 // The row writer: a record as a row of a trace, as the house spells it, and how many bytes that is.
 use base::put_byte;
+use base::put_three;
 use digits::Letters;
 use digits::decimal_length;
 use digits::put_decimal;
 use digits::put_hex;
 use digits::put_kept;
 use digits::put_padded;
+use digits::put_pairs;
 use record::Record;
 ghost use mathlib.Core.Path.{_≡_};
-ghost use mathlib.Core.List.{[], _∷_};
-ghost use Prim.Native.Nat.{_+_, _*_, _/_, _^_, _≤_, _<_};
+ghost use mathlib.Core.List.{_∷_};
+ghost use Prim.Native.Nat.{_+_, _/_, _≤_};
 ghost use lib.ListN.{length};
+ghost use Rattle.base.specs.Spaced.{spaced, joined};
 ghost use Rattle.base.specs.Wrote.{Wrote};
-ghost use Rattle.digits.specs.declared.Letters.{Letters};
 ghost use Rattle.digits.specs.declared.Letters.the-variants.{Capital};
-ghost use Rattle.digits.specs.House.{decimalText, hexText, PairsOf};
+ghost use Rattle.digits.specs.House.{decimalText, PairsOf};
 ghost use Rattle.fields.specs.Columns.{lastNumber};
 ghost use Rattle.record.specs.Record.{WellFormed};
 ghost use Rattle.row.specs.Carries.{Carries};
-ghost use Rattle.row.specs.House.{joined, numberText, offsetText, busTexts, markText, idText, byteTexts, dataTexts, rowText};
-ghost use Rattle.row_writer.specs.Parts.{spaced, headTexts, frameTexts};
-
-// Puts three bytes.
-fn put_three(out: &mut [u8], at: usize, a: u8, b: u8, c: u8) -> usize
-    requires { ⌜ at + 3 ≤ length (now out) ⌝ }
-    ensures { λ r. ⌜ Wrote (now (out .entry)) (now (out .exit)) at r (a ∷ b ∷ c ∷ []) ⌝ }
-{
-    let p = put_byte(out, at, a);
-    let q = put_byte(out, p, b);
-    put_byte(out, q, c)
-}
+ghost use Rattle.row.specs.House.{numberText, offsetText, busTexts, markText, idText, dataTexts, rowText};
+ghost use Rattle.row_writer.specs.Parts.{headTexts, frameTexts};
 
 // Row number and `)`. Its digits before the last are at hand.
 fn put_number(out: &mut [u8], at: usize, k: u64, tens: &[u8]) -> usize
@@ -146,30 +138,6 @@ fn id_length(r: Record) -> usize
         return 9;
     }
     5
-}
-
-// One data byte, from the table of pairs: the calls of `put_hex` for each digit would double the time that a row takes.
-fn put_pair(out: &mut [u8], at: usize, b: u64, pairs: &[u8; 512]) -> usize
-    requires { ⌜ (b < 256) × (at + 3 ≤ length (now out)) ⌝ }
-    ensures { λ r. ⌜ ((x : Letters) → PairsOf x (now (pairs .entry)) → Wrote (now (out .entry)) (now (out .exit)) at r (32 ∷ hexText x 2 b)) ⌝ }
-    ensures { λ r. ⌜ r ≡ at + 3 ⌝ }
-{
-    let i = 2 * b as usize;
-    put_three(out, at, 32, pairs[i], pairs[i + 1])
-}
-
-// The first n of eight data bytes, each behind one blank, in the letter case of the table of pairs.
-pub fn put_pairs(out: &mut [u8], at: usize, n: u64, word: u64, pairs: &[u8; 512]) -> usize
-    requires { ⌜ (n ≤ 8) × (at + 3 * n ≤ length (now out)) ⌝ }
-    ensures { λ r. ⌜ ((x : Letters) → PairsOf x (now (pairs .entry)) → Wrote (now (out .entry)) (now (out .exit)) at r (spaced (byteTexts x (256 ^ 7) n word))) ⌝ }
-{
-    let mut p = at;
-    let mut j: u64 = 1;
-    while j <= n {
-        p = put_pair(out, p, (word >> (64 - 8 * j)) % 256, pairs);
-        j += 1;
-    }
-    p
 }
 
 // `RTR` for a remote frame, else the bytes.

@@ -5,7 +5,8 @@ use mathlib.Core.Logic.{inl, inr, ⊎-elim}
 use mathlib.Core.List.{List, [], _∷_}
 use native.Mathlib.Omega.{arith}
 use lib.ListN.{replicate}
-use Rattle.digits.specs.House.{glyphOf, fixed, spell, decimalText}
+use Rattle.base.specs.Spaced.{spaced, joined}
+use Rattle.digits.specs.House.{glyphOf, fixed, spell, decimalText, byteTexts}
 use Rattle.clock.specs.Start.{startLimit}
 use Rattle.fields.specs.Runs.{empty as nothing, more as byte}
 use Rattle.fields.proofs.Runs.{all-append, all-of}
@@ -15,7 +16,7 @@ use Rattle.record.specs.Record.{WellFormed, number}
 use Rattle.record.proofs.Bytes.{byte-below}
 use Rattle.records.specs.Records.{packed, none, more}
 use Rattle.row.specs.Carries.{Carries, v12}
-use Rattle.row.specs.House.{joined, numberText, offsetText, busTexts, markText, idText, byteTexts, dataTexts, rowTexts}
+use Rattle.row.specs.House.{numberText, offsetText, busTexts, markText, idText, dataTexts, rowTexts}
 use Rattle.trace.specs.Trace.{Trace, AreBytes, traceOf}
 use Rattle.trace.specs.House.{versionLineText, dayFraction, startLineText, rowsText, traceText, Version, Writable}
 use Rattle.trace.proofs.Beginnings.{tested, are-bytes}
@@ -80,7 +81,7 @@ abbrev pub recordsOf : Trace → Bytes
 recordsOf t = record { list = packed (t .records); small = packed-small (t .records) }
 
 text-tested : {t : Trace} → Tried t → tested (traceText t)
-unfolding traceText versionLineText startLineText dayFraction rowsText joined numberText offsetText busTexts markText idText byteTexts dataTexts rowTexts decimalText spell fixed glyphOf
+unfolding traceText versionLineText startLineText dayFraction rowsText spaced joined numberText offsetText busTexts markText idText byteTexts dataTexts rowTexts decimalText spell fixed glyphOf
 text-tested empty = tt
 text-tested later = tt
 text-tested older = tt

@@ -1,5 +1,6 @@
 // A whole trace, written from packed records as the house spells it. The first pass judges and measures, the second writes.
 use base::put_byte;
+use base::put_end;
 use base::put_text;
 use clock::START_LIMIT;
 use clock::day_fraction;
@@ -17,7 +18,6 @@ use records::whole;
 use row_writer::put_row;
 use row_writer::row_length;
 ghost use mathlib.Core.Path.{_≡_};
-ghost use mathlib.Core.List.{[], _∷_};
 ghost use Prim.Native.Nat.{_+_, _≤_};
 ghost use lib.ListN.{length};
 ghost use Rattle.base.specs.Decides.{Decides};
@@ -41,15 +41,6 @@ pub enum Written {
 pub enum Size {
     Bytes(usize),
     Bad { number: u64, place: u64 },
-}
-
-// CR LF.
-fn put_end(out: &mut [u8], at: usize) -> usize
-    requires { ⌜ at + 2 ≤ length (now out) ⌝ }
-    ensures { λ r. ⌜ Wrote (now (out .entry)) (now (out .exit)) at r (13 ∷ 10 ∷ []) ⌝ }
-{
-    let p = put_byte(out, at, 13);
-    put_byte(out, p, 10)
 }
 
 // Line 1.

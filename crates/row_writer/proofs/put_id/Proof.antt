@@ -7,7 +7,8 @@ use Rattle.base.proofs.Lists.{then}
 use Rattle.digits.specs.House.{glyphOf}
 use Rattle.digits.specs.declared.Letters.the-variants.{Capital}
 use Rattle.digits.proofs.House.{length-fixed}
-use Rattle.row_writer.proofs.Columns.{warning-id, extended-id, standard-id}
+use Rattle.row.proofs.Texts.{id-warning}
+use Rattle.row_writer.proofs.Columns.{extended-id, standard-id}
 use Rattle.row_writer.proofs.put_id.Statement.{statement}
 use Rattle.row_writer.proofs.put_id.Tie as tie
 
@@ -17,11 +18,11 @@ put-id-spec =
     (λ c κs. search needs)
     (λ c κs.
     let r = c .before .before .before .before .before .before .before .before .args .r in
-    omega (arith, ap length (warning-id r (c .before .if1 .taken)), length-fixed (glyphOf Capital) 16 8 0xFFFFFFFF))
+    omega (arith, ap length (id-warning r (c .before .if1 .taken)), length-fixed (glyphOf Capital) 16 8 0xFFFFFFFF))
     (λ c. search needs)
     (λ c.
     let p = c .before .before .before .before .before .before .before .before in
-    let e = warning-id (p .before .before .before .args .r) (c .before .before .before .before .if1 .taken) in
+    let e = id-warning (p .before .before .before .args .r) (c .before .before .before .before .if1 .taken) in
     rw e (then (p .put-byte .ensures) (c .before .before .put-hex .ensures .0)))
     (λ c κs.
     let r = c .before .before .before .before .before .before .before .before .before .before .args .r in

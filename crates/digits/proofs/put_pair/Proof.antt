@@ -1,8 +1,8 @@
--- `row_writer::put_pair` meets its contract.
+-- `digits::put_pair` meets its contract.
 use borrow.Author.Needs.{needs}
-use Rattle.row_writer.proofs.Bytes.{paired}
-use Rattle.row_writer.proofs.put_pair.Statement.{statement}
-use Rattle.row_writer.proofs.put_pair.Tie as tie
+use Rattle.digits.proofs.ByteTexts.{paired}
+use Rattle.digits.proofs.put_pair.Statement.{statement}
+use Rattle.digits.proofs.put_pair.Tie as tie
 
 pub put-pair-spec : {M : Type 1} → statement M
 put-pair-spec =

@@ -1,8 +1,8 @@
--- `row_writer::put_three` meets its contract.
+-- `base::put_three` meets its contract.
 use borrow.Author.Needs.{needs}
 use Rattle.base.proofs.Lists.{then}
-use Rattle.row_writer.proofs.put_three.Statement.{statement}
-use Rattle.row_writer.proofs.put_three.Tie as tie
+use Rattle.base.proofs.put_three.Statement.{statement}
+use Rattle.base.proofs.put_three.Tie as tie
 
 pub put-three-spec : {M : Type 1} → statement M
 put-three-spec =

@@ -1,17 +1,16 @@
--- `row_writer::put_pairs` puts one byte more in each turn.
+-- `digits::put_pairs` puts one byte more in each turn.
 use Prim.Native.Nat.{_+_, _*_, _-_, _^_, _≤_}
 use mathlib.Core.Path.{_≡_}
 use native.Mathlib.Omega.{arith}
 use borrow.Author.Needs.{needs}
 use lib.ListN.{length}
+use Rattle.base.specs.Spaced.{spaced}
 use Rattle.base.specs.Wrote.{Wrote}
 use Rattle.digits.specs.declared.Letters.{Letters}
-use Rattle.digits.specs.House.{PairsOf}
-use Rattle.row.specs.House.{byteTexts}
-use Rattle.row_writer.specs.Parts.{spaced}
-use Rattle.row_writer.proofs.Bytes.{put-none, put-more}
-use Rattle.row_writer.proofs.put_pairs.Statement.{statement}
-use Rattle.row_writer.proofs.put_pairs.Tie as tie
+use Rattle.digits.specs.House.{PairsOf, byteTexts}
+use Rattle.digits.proofs.ByteTexts.{put-none, put-more}
+use Rattle.digits.proofs.put_pairs.Statement.{statement}
+use Rattle.digits.proofs.put_pairs.Tie as tie
 
 abbrev Inv-loop : tie.InvT-loop
 Inv-loop out₀ at n word pairs p₀ j₀ out p j =

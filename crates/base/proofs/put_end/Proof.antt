@@ -1,8 +1,8 @@
--- `trace_writer::put_end` meets its contract.
+-- `base::put_end` meets its contract.
 use borrow.Author.Needs.{needs}
 use Rattle.base.proofs.Lists.{then}
-use Rattle.trace_writer.proofs.put_end.Statement.{statement}
-use Rattle.trace_writer.proofs.put_end.Tie as tie
+use Rattle.base.proofs.put_end.Statement.{statement}
+use Rattle.base.proofs.put_end.Tie as tie
 
 pub put-end-spec : {M : Type 1} → statement M
 put-end-spec =

@@ -1,0 +1,13 @@
+-- The parts of a line, put together with blanks.
+use Prim.Native.Nat.{ℕ}
+use mathlib.Core.List.{List, [], _∷_, _++_}
+
+-- Each behind one blank.
+unfoldable pub spaced : List (List ℕ) → List ℕ
+spaced [] = []
+spaced (f ∷ fs) = 32 ∷ (f ++ spaced fs)
+
+-- One blank between two.
+unfoldable pub joined : List (List ℕ) → List ℕ
+joined [] = []
+joined (f ∷ fs) = f ++ spaced fs
