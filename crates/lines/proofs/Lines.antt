@@ -13,12 +13,13 @@ use Rattle.clock.specs.Start.{Start}
 use Rattle.clock.proofs.Starts.{one-start}
 use Rattle.fields.specs.Runs.{empty, more, Stops, over, halt}
 use Rattle.fields.proofs.Scans.{digits-all}
+use Rattle.fields.proofs.Window.{head-at}
 use Rattle.lines.specs.declared.StartTime.{StartTime}
 use Rattle.lines.specs.declared.StartTime.the-variants.{Ms, Not}
-use Rattle.lines.specs.Lines.{Inside, FirstLine, Blanks, VersionText, one, two, VersionLine, startText, StartLine, NoDollar, nothing, other, Comment, DollarLine}
+use Rattle.lines.specs.Lines.{Inside, FirstLine, Blanks, VersionText, one, two, VersionLine, startText, StartDigits, StartLine, NoDollar, nothing, other, Comment, DollarLine}
 use Rattle.lines.specs.Answer.{StartOr}
-use Rattle.lines.specs.Parts.{Blank, Digit, Ran, Opened, OpenedOr0, Stands, StartDigits, StartOfDigits}
-use Rattle.lines.proofs.Scans.{run-one, split, head-at, at-head, behind, not-opened, opened-one, below-zero}
+use Rattle.lines.specs.Parts.{Blank, Digit, Ran, Opened, OpenedOr0, Stands, StartOfDigits}
+use Rattle.lines.proofs.Scans.{run-one, split, at-head, behind, not-opened, opened-one, below-zero}
 
 -- CR is not inside a line, nor LF.
 pub cr-outside : {b : ℕ} → b ≡ 13 → Inside b → ⊥
@@ -149,20 +150,6 @@ module _ {line : List ℕ} {at : ℕ} (o : Opened line at) where
           blank-end = w .blank-end;
         }
 
--- The digits of a start line.
-pub digits-of : {s : ℕ} {line : List ℕ} (l : StartLine s line) → StartDigits (l .day) (l .fraction) s
-digits-of l = record {
-  days = l .days;
-  count = l .count;
-  few = l .few;
-  parts = l .parts;
-  digits = l .digits;
-  some = l .some;
-  short = l .short;
-  is = l .is;
-  limit = l .limit;
-}
-
 -- A point stops digits, and so do blanks.
 pub point-stops : {t : List ℕ} → Stops Digit (46 ∷ t)
 point-stops = halt {b = 46} (below-zero (omega arith))
@@ -189,7 +176,7 @@ module _ {line : List ℕ} {at : ℕ} (o : Opened line at) where
     start-day l =
         let d : startText ++ drop (at + 11) line ≡ startText ++ (l .day ++ (46 ∷ tail l)) = sym (behind p) ∙ start-tail l in
         let t : drop (at + 11) line ≡ l .day ++ (46 ∷ tail l) = cc in
-        let x = run-one r (46 ∷ tail l) (digits-all (l .count .digits)) point-stops t in
+        let x = run-one r (46 ∷ tail l) (digits-all (l .gives .count .digits)) point-stops t in
         (x .0, sym (x .1))
 
     pub start-point : {s : ℕ} → StartLine s line → (point < length line) × (getD line point 0 ≡ 46)
@@ -200,13 +187,13 @@ module _ {line : List ℕ} {at : ℕ} (o : Opened line at) where
           → (l .fraction ≡ slice (point + 1) end line) × (l .after ≡ drop end line)
       start-fraction l =
           let h = head-at line point (start-day l .1) in
-          run-one q (l .after) (digits-all (l .digits .digits)) (blanks-stop (l .blank-end)) (h .2)
+          run-one q (l .after) (digits-all (l .gives .digits .digits)) (blanks-stop (l .blank-end)) (h .2)
 
       pub start-blanks : {s : ℕ} → StartLine s line → Blanks (drop end line)
       start-blanks l = rw (start-fraction l .1) at (l .blank-end)
 
       start-digits : {s : ℕ} → StartLine s line → StartDigits (slice (at + 11) point line) (slice (point + 1) end line) s
-      start-digits l = rw (start-day l .0, start-fraction l .0) at (digits-of l)
+      start-digits l = rw (start-day l .0, start-fraction l .0) at (l .gives)
 
       start-made : {s : ℕ} → point < length line → getD line point 0 ≡ 46 → Blanks (drop end line)
           → StartDigits (slice (at + 11) point line) (slice (point + 1) end line) s → StartLine s line
@@ -223,16 +210,8 @@ module _ {line : List ℕ} {at : ℕ} (o : Opened line at) where
             after = drop end line;
             bytes = o .bytes ∙ ap (λ (l : List ℕ). 59 ∷ (o .before ++ l)) (behind p ∙ ap (λ (l : List ℕ). startText ++ l) z);
             blanks = o .blanks;
-            days = w .days;
-            count = w .count;
-            few = w .few;
-            parts = w .parts;
-            digits = w .digits;
-            some = w .some;
-            short = w .short;
+            gives = w;
             blank-end = b;
-            is = w .is;
-            limit = w .limit;
           }
 
       -- what the digits give is what the line gives

@@ -18,10 +18,10 @@ use Rattle.lines.specs.declared.StartTime.{StartTime}
 use Rattle.lines.specs.declared.StartTime.the-variants as start-time
 use Rattle.lines.specs.declared.Remark.{Remark}
 use Rattle.lines.specs.declared.Remark.the-variants as remark
-use Rattle.lines.specs.Lines.{Inside, FirstLine, Blanks, VersionText, one, two, VersionLine, startText, StartLine, NoDollar, nothing, other, Comment, DollarLine}
+use Rattle.lines.specs.Lines.{Inside, FirstLine, Blanks, VersionText, one, two, VersionLine, startText, StartDigits, StartLine, NoDollar, nothing, other, Comment, DollarLine}
 use Rattle.lines.specs.Answer.{EndsAt, VersionOr0, version, none, StartOr, Remarks}
-use Rattle.lines.specs.Parts.{Blank, StartDigits}
-use Rattle.lines.proofs.Lines.{cr-outside, lf-outside, versionText, version-text, figure-one, point-stops, blanks-stop, digits-of, digits-one}
+use Rattle.lines.specs.Parts.{Blank}
+use Rattle.lines.proofs.Lines.{cr-outside, lf-outside, versionText, version-text, figure-one, point-stops, blanks-stop, digits-one}
 
 -- A text starts with one line.
 pub first-one : {l l′ r r′ t : List ℕ} → FirstLine l r t → FirstLine l′ r′ t → (l ≡ l′) × (r ≡ r′)
@@ -83,13 +83,13 @@ pub start-one : {s u : ℕ} {line : List ℕ} → StartLine s line → StartLine
 start-one {s} {u} p q =
     let b = behind-one _ _ (p .blanks) (q .blanks) (dollar-stops refl) (dollar-stops refl) (p .bytes) (q .bytes) in
     let d : p .day ++ (46 ∷ (p .fraction ++ p .after)) ≡ q .day ++ (46 ∷ (q .fraction ++ q .after)) = cc in
-    let x = cut (digits-all (p .count .digits)) (digits-all (q .count .digits)) point-stops point-stops d in
+    let x = cut (digits-all (p .gives .count .digits)) (digits-all (q .gives .count .digits)) point-stops point-stops d in
     let f : p .fraction ++ p .after ≡ q .fraction ++ q .after = cc (x .1) in
     let j = blanks-stop (p .blank-end) in
     let k = blanks-stop (q .blank-end) in
-    let y = cut (digits-all (p .digits .digits)) (digits-all (q .digits .digits)) j k f in
-    let w : StartDigits (q .day) (q .fraction) s = rw (x .0, y .0) at (digits-of p) in
-    digits-one (q .count) (q .digits) (q .is) w
+    let y = cut (digits-all (p .gives .digits .digits)) (digits-all (q .gives .digits .digits)) j k f in
+    let w : StartDigits (q .day) (q .fraction) s = rw (x .0, y .0) at (p .gives) in
+    digits-one (q .gives .count) (q .gives .digits) (q .gives .is) w
 
 -- A comment with `$` first is no plain comment.
 pub not-both : {line : List ℕ} → Comment line → DollarLine line → ⊥
@@ -161,6 +161,19 @@ pub version-line-inside : {v : ℕ} {s : List ℕ} → VersionText v s → All I
 version-line-inside (one e) = rw e (text-inside _ tt)
 version-line-inside (two e) = rw e (text-inside _ tt)
 
+-- A start line without blanks.
+pub start-line-of : {day fraction : List ℕ} {start : ℕ} → StartDigits day fraction start → StartLine start (59 ∷ (startText ++ (day ++ (46 ∷ fraction))))
+start-line-of {day} {fraction} g = record {
+  before = [];
+  day = day;
+  fraction = fraction;
+  after = [];
+  bytes = ap (λ (f : List ℕ). 59 ∷ (startText ++ (day ++ (46 ∷ f)))) (sym (append-nil fraction));
+  blanks = empty;
+  gives = g;
+  blank-end = empty;
+}
+
 abbrev pub startLine : List ℕ
 startLine = 59 ∷ (startText ++ (48 ∷ 46 ∷ 48 ∷ []))
 
@@ -168,13 +181,7 @@ zero-digit : Digits DecimalDigit 10 (48 ∷ []) 0
 zero-digit = digits-more {d = 0} (record { value = omega arith; byte = refl }) no-digits refl
 
 pub start-line-text : StartLine 0 startLine
-start-line-text = record {
-  before = [];
-  day = 48 ∷ [];
-  fraction = 48 ∷ [];
-  after = [];
-  bytes = refl;
-  blanks = empty;
+start-line-text = start-line-of (record {
   days = 0;
   count = record { digits = zero-digit; some = omega arith; lead = λ h. absurd (omega arith) };
   few = omega arith;
@@ -182,10 +189,9 @@ start-line-text = record {
   digits = record { digits = zero-digit; width = refl };
   some = omega arith;
   short = omega arith;
-  blank-end = empty;
   is = record { low = omega arith; high = omega arith };
   limit = omega arith;
-}
+})
 
 pub start-line-inside : All Inside startLine
 start-line-inside = text-inside startLine tt

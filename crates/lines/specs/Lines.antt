@@ -42,15 +42,8 @@ pub record VersionLine (version : ℕ) (line : List ℕ) : Type 0 where
 abbrev pub startText : List ℕ
 startText = 36 ∷ 83 ∷ 84 ∷ 65 ∷ 82 ∷ 84 ∷ 84 ∷ 73 ∷ 77 ∷ 69 ∷ 61 ∷ []
 
--- Line 2: `;`, any blanks, `$STARTTIME=`, a day count of 1 to 5 digits with no leading zero, a point, 1 to 10 digits, any blanks; and
--- the start, in milliseconds, within its limit.
-pub record StartLine (start : ℕ) (line : List ℕ) : Type 0 where
-  pub before : List ℕ
-  pub day : List ℕ
-  pub fraction : List ℕ
-  pub after : List ℕ
-  pub bytes : line ≡ 59 ∷ (before ++ (startText ++ (day ++ (46 ∷ (fraction ++ after)))))
-  pub blanks : Blanks before
+-- A day count of 1 to 5 digits with no leading zero, and 1 to 10 digits behind its point, give this start, in milliseconds, within its limit.
+pub record StartDigits (day fraction : List ℕ) (start : ℕ) : Type 0 where
   pub days : ℕ
   pub count : Decimal days day
   pub few : length day ≤ 5
@@ -58,9 +51,19 @@ pub record StartLine (start : ℕ) (line : List ℕ) : Type 0 where
   pub digits : Padded (length fraction) parts fraction
   pub some : 1 ≤ length fraction
   pub short : length fraction ≤ 10
-  pub blank-end : Blanks after
   pub is : Start days parts (length fraction) start
   pub limit : start ≤ startLimit
+
+-- Line 2: `;`, any blanks, `$STARTTIME=`, the day count, a point, the digits behind it, any blanks.
+pub record StartLine (start : ℕ) (line : List ℕ) : Type 0 where
+  pub before : List ℕ
+  pub day : List ℕ
+  pub fraction : List ℕ
+  pub after : List ℕ
+  pub bytes : line ≡ 59 ∷ (before ++ (startText ++ (day ++ (46 ∷ (fraction ++ after)))))
+  pub blanks : Blanks before
+  pub gives : StartDigits day fraction start
+  pub blank-end : Blanks after
 
 -- What stands behind a comment's `;` and blanks: nothing, or a first byte that is neither a blank nor `$`.
 pub data NoDollar : List ℕ → Type 0 where

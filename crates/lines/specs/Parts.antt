@@ -4,15 +4,19 @@ use mathlib.Core.Path.{_≡_}
 use mathlib.Core.List.{List, _∷_, _++_}
 use lib.ListN.{length, drop}
 use lib.Seq.{slice}
-use Rattle.digits.specs.Digits.{DecimalDigit, Decimal, Padded}
-use Rattle.clock.specs.Start.{Start, startLimit}
+use Rattle.digits.specs.Digits.{DecimalDigit}
 use Rattle.fields.specs.Runs.{All, Stops}
 use Rattle.lines.specs.declared.StartTime.{StartTime}
 use Rattle.lines.specs.declared.StartTime.the-variants as start-time
-use Rattle.lines.specs.Lines.{Blanks}
+use Rattle.lines.specs.Lines.{Blanks, StartDigits}
 
 abbrev pub Blank : ℕ → Type 0
 Blank b = b ≡ 32
+
+-- The byte stands from one byte up to another.
+pub record Between (first last b : ℕ) : Type 0 where
+  pub low : first ≤ b
+  pub high : b ≤ last
 
 -- The byte is some decimal digit.
 abbrev pub Digit : ℕ → Type 0
@@ -44,19 +48,7 @@ pub record Stands (t s : List ℕ) (at : ℕ) : Type 0 where
   pub rest : List ℕ
   pub bytes : drop at s ≡ t ++ rest
 
--- The start that the digits of a start line give.
-pub record StartDigits (day fraction : List ℕ) (start : ℕ) : Type 0 where
-  pub days : ℕ
-  pub count : Decimal days day
-  pub few : length day ≤ 5
-  pub parts : ℕ
-  pub digits : Padded (length fraction) parts fraction
-  pub some : 1 ≤ length fraction
-  pub short : length fraction ≤ 10
-  pub is : Start days parts (length fraction) start
-  pub limit : start ≤ startLimit
-
--- That start, or that they give none.
+-- The start that the digits of a start line give, or that they give none.
 abbrev pub StartOfDigits : List ℕ → List ℕ → StartTime → Type 0
 StartOfDigits day fraction (start-time.Ms s) = StartDigits day fraction s
 StartOfDigits day fraction start-time.Not = (s : ℕ) → StartDigits day fraction s → ⊥

@@ -9,7 +9,7 @@ ghost use lib.ListN.{length};
 ghost use Rattle.base.specs.Decides.{Decides};
 ghost use Rattle.lines.specs.Lines.{Inside};
 ghost use Rattle.lines.specs.Answer.{EndsAt, VersionOr0, StartOr, Remarks};
-ghost use Rattle.lines.specs.Parts.{Blank, Digit, Ran, OpenedOr0, Stands, StartOfDigits};
+ghost use Rattle.lines.specs.Parts.{Between, Ran, OpenedOr0, Stands, StartOfDigits};
 
 // Where a line ends: at its CR, which LF follows; or nowhere.
 pub enum Ending {
@@ -66,32 +66,17 @@ pub fn line_end(text: &[u8], at: usize) -> Ending
     Ending::At(e)
 }
 
-// Where the blanks from a place on end.
-fn blanks_end(line: &[u8], at: usize) -> usize
+// Where the bytes between two, these two among them, end that stand from a place on: blanks, or decimal digits.
+fn run_end(line: &[u8], at: usize, first: u8, last: u8) -> usize
     requires { ⌜ at ≤ length (now line) ⌝ }
-    ensures { λ r. ⌜ Ran Blank (now (line .entry)) at r ⌝ }
+    ensures { λ r. ⌜ Ran (Between first last) (now (line .entry)) at r ⌝ }
 {
     let mut e = at;
     while e < line.len() {
-        if line[e] != 32 {
+        if line[e] < first {
             return e;
         }
-        e += 1;
-    }
-    e
-}
-
-// Where the decimal digits from a place on end.
-fn digits_end(line: &[u8], at: usize) -> usize
-    requires { ⌜ at ≤ length (now line) ⌝ }
-    ensures { λ r. ⌜ Ran Digit (now (line .entry)) at r ⌝ }
-{
-    let mut e = at;
-    while e < line.len() {
-        if line[e] < 48 {
-            return e;
-        }
-        if 57 < line[e] {
+        if last < line[e] {
             return e;
         }
         e += 1;
@@ -127,7 +112,7 @@ fn opened(line: &[u8]) -> usize
     if line[0] != 59 {
         return 0;
     }
-    blanks_end(line, 1)
+    run_end(line, 1, 32, 32)
 }
 
 // The version of a version line, 11 or 12, or 0.
@@ -145,7 +130,7 @@ pub fn version_line(line: &[u8]) -> u64
     if e == line.len() {
         return 0;
     }
-    if blanks_end(line, e + 1) != line.len() {
+    if run_end(line, e + 1, 32, 32) != line.len() {
         return 0;
     }
     if line[e] == 49 {
@@ -195,7 +180,7 @@ pub fn start_line(line: &[u8]) -> StartTime
         return StartTime::Not;
     }
     let day = a + 11;
-    let point = digits_end(line, day);
+    let point = run_end(line, day, 48, 57);
     if point == line.len() {
         return StartTime::Not;
     }
@@ -203,8 +188,8 @@ pub fn start_line(line: &[u8]) -> StartTime
         return StartTime::Not;
     }
     let fraction = point + 1;
-    let end = digits_end(line, fraction);
-    if blanks_end(line, end) != line.len() {
+    let end = run_end(line, fraction, 48, 57);
+    if run_end(line, end, 32, 32) != line.len() {
         return StartTime::Not;
     }
     start_of_digits(&line[day..point], &line[fraction..end])

@@ -54,7 +54,7 @@ left = (gives 39878 10 6772258947 (39878 * dayMs + 58512317) (omega arith) (omeg
 
 -- 99999.9999999999
 late : (ms : ℕ) → StartLine ms (startLine 99999 10 9999999999) → ⊥
-late ms s = omega (arith, s .limit, past-limit ms (gives-only 99999 10 9999999999 (omega arith) s))
+late ms s = omega (arith, s .gives .limit, past-limit ms (gives-only 99999 10 9999999999 (omega arith) s))
 
 -- Every case holds.
 pub papers : Every Holds table

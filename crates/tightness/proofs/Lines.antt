@@ -92,7 +92,7 @@ wrong-letter (two e) h = omega (arith, ap (λ (x : List ℕ). getD x 1 0) e)
 
 -- a day count has five digits at the most, and its fraction ten
 pub six-day-digits : {start : ℕ} {line : List ℕ} (l : StartLine start line) → length (l .day) ≡ 6 → ⊥
-six-day-digits l e = omega (arith, l .few)
+six-day-digits l e = omega (arith, l .gives .few)
 
 pub eleven-fraction-digits : {start : ℕ} {line : List ℕ} (l : StartLine start line) → length (l .fraction) ≡ 11 → ⊥
-eleven-fraction-digits l e = omega (arith, l .short)
+eleven-fraction-digits l e = omega (arith, l .gives .short)

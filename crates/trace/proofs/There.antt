@@ -1,17 +1,17 @@
 -- The house spelling is there: each trace that can be written is spelled by it, and each that was read can be written.
 use Prim.Native.Nat.{ℕ, _+_, _*_, _/_, _%_, _≤_}
-use mathlib.Core.Path.{_≡_, refl, ap, sym, _∙_}
+use mathlib.Core.Path.{_≡_, refl}
 use mathlib.Core.Logic.{inl, inr}
-use mathlib.Core.List.{List, [], _∷_, _++_, append-nil}
+use mathlib.Core.List.{List, [], _∷_, _++_}
 use native.Mathlib.Omega.{arith}
 use lib.ListN.{length, length-append}
 use Rattle.digits.specs.Digits.{DecimalDigit, Padded}
-use Rattle.digits.specs.House.{decimalText, paddedText}
+use Rattle.digits.specs.House.{paddedText}
 use Rattle.digits.proofs.House.{few, decimal-spells, padded-spells}
 use Rattle.clock.specs.Start.{dayMs, startLimit}
 use Rattle.clock.proofs.Starts.{back, fraction-fits}
 use Rattle.fields.specs.Columns.{lastNumber}
-use Rattle.fields.specs.Runs.{All, empty, more as byte}
+use Rattle.fields.specs.Runs.{All, more as byte}
 use Rattle.fields.proofs.Runs.{all-map, all-append, all-left}
 use Rattle.fields.proofs.Scans.{Some, digits-all}
 use Rattle.record.specs.declared.Record.{Record}
@@ -23,7 +23,7 @@ use Rattle.row.proofs.Formed.{row-formed, row-carried, row-number}
 use Rattle.row.proofs.Plain.{row-plain}
 use Rattle.lines.specs.Lines.{Inside, VersionText, one, two, startText, StartLine}
 use Rattle.lines.proofs.Lines.{versionText}
-use Rattle.lines.proofs.Theorems.{version-line-text, version-line-inside, version-known, start-line-inside}
+use Rattle.lines.proofs.Theorems.{version-line-text, version-line-inside, version-known, start-line-of, start-line-inside}
 use Rattle.trace.specs.Trace.{sizeLimit, Trace, Body, over, comment, row, Spells}
 use Rattle.trace.specs.House.{versionLineText, dayFraction, startLineText, rowsText, traceText, Version, Carried, Writable}
 use Rattle.trace.proofs.HouseTexts.{version-line, start-line, day-fraction, rows-none, rows-more, trace-text, version-line-length, start-line-size, rows-size}
@@ -51,16 +51,9 @@ module _ (start : ℕ) where
   start-spelled h =
       let d = start / dayMs in
       let m = start % dayMs in
-      let f = paddedText 10 (dayFraction m) in
       let p = fraction-spelled in
       let e : d * dayMs + m ≡ start = omega arith in
-      record {
-        before = [];
-        day = decimalText d;
-        fraction = f;
-        after = [];
-        bytes = start-line start ∙ ap (λ (s : List ℕ). 59 ∷ (startText ++ (decimalText d ++ (46 ∷ s)))) (sym (append-nil f));
-        blanks = empty;
+      rw start-line (start-line-of (record {
         days = d;
         count = decimal-spells d;
         few = few 4 d (omega arith);
@@ -68,10 +61,9 @@ module _ (start : ℕ) where
         digits = record { digits = p .digits; width = refl };
         some = omega (arith, p .width);
         short = omega (arith, p .width);
-        blank-end = empty;
         is = rw (p .width) (rw e at (back d (day-fraction m)));
         limit = h;
-      }
+      }))
 
   -- What stands before the digits also stands in `;$STARTTIME=0.0`, which has no CR and no LF.
   start-inside : All Inside (startLineText start)
@@ -146,7 +138,7 @@ numbered (row m w h) l = let n = row-number w in omega (arith, numbered h (omega
 pub read-writable : {t : Trace} {text : List ℕ} → Spells t text → Writable t
 read-writable a = record {
   version = version-known (a .version);
-  start = a .start .limit;
+  start = a .start .gives .limit;
   few = omega (arith, numbered (a .body) (omega arith));
   formed = formed (a .body);
   carried = carried (a .body);
