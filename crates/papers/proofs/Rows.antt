@@ -1,5 +1,5 @@
 -- Rows of received frames: fields joined by blanks, and which record they are a row of.
-use Prim.Native.Nat.{ℕ, suc, _+_, _^_, _≤_, _<_}
+use Prim.Native.Nat.{ℕ, suc, _+_, _-_, _^_, _≤_, _<_}
 use mathlib.Core.Path.{_≡_, refl, ap, subst}
 use mathlib.Core.Bool.{Bool}
 use mathlib.Core.List.{List, [], _∷_}
@@ -20,6 +20,7 @@ use Rattle.fields.proofs.Runs.{all-of}
 use Rattle.fields.proofs.Parts.{parted-one, first}
 use Rattle.record.specs.declared.Record.{Record}
 use Rattle.record.specs.Record.{WellFormed}
+use Rattle.record.proofs.Frames.{frame-formed}
 use Rattle.row.specs.Row
 use Rattle.papers.specs.Text.{text}
 use Rattle.papers.specs.Cases.{received}
@@ -120,17 +121,5 @@ row-0-byte r w = go (frame (fields-of (text "1)" ∷ text "0.0" ∷ text "Rx" �
 -- A received frame, of data or remote, is well formed.
 pub received-formed : (kind extended id len : ℕ) → kind ≤ 3 → extended ≤ 1 → (extended ≡ 0 → id ≤ 0x7FF) → id < 2 ^ 29 → len ≤ 8
     → WellFormed (received kind extended id len)
-received-formed kind extended id len k x s i l = record {
-  offset = omega arith;
-  bus = omega arith;
-  kind = omega arith;
-  extended = x;
-  standard = s;
-  id = i;
-  len = l;
-  eight = omega arith;
-  past = zero-mod _;
-  remote = λ e. refl;
-  warning = λ e. absurd (omega arith);
-  error = λ e. absurd (omega arith);
-}
+received-formed kind extended id len k x s i l =
+    frame-formed _ k (omega arith) (omega arith) x s i l (omega arith) (zero-mod (256 ^ (8 - len))) (λ e. refl)

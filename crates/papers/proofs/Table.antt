@@ -12,6 +12,7 @@ use Rattle.lines.specs.Lines.{StartLine}
 use Rattle.record.specs.declared.Record.{Record}
 use Rattle.record.specs.Bytes.{bytes}
 use Rattle.record.specs.Record.{WellFormed, number, Packs}
+use Rattle.record.proofs.Frames.{frame-formed}
 use Rattle.row.specs.Row.{Row}
 use Rattle.row.specs.Carries.{v11, v12}
 use Rattle.row.specs.House.{numberText, offsetText, busTexts, markText, idText, dataTexts, rowTexts, rowText}
@@ -30,20 +31,9 @@ abbrev first : Record
 first = record { offset = 0; bus = 1; kind = 0; extended = 0; id = 0x123; len = 2; «data» = 0x0AFF000000000000 }
 
 first-formed : WellFormed first
-first-formed = record {
-  offset = omega arith;
-  bus = omega arith;
-  kind = omega arith;
-  extended = omega arith;
-  standard = λ e. omega arith;
-  id = omega arith;
-  len = omega arith;
-  eight = omega arith;
-  past = omega arith;
-  remote = ⊎-elim (λ e. absurd (omega arith)) (λ e. absurd (omega arith));
-  warning = λ e. absurd (omega arith);
-  error = λ e. absurd (omega arith);
-}
+first-formed =
+    frame-formed _ (omega arith) (omega arith) (omega arith) (omega arith) (λ e. omega arith) (omega arith) (omega arith) (omega arith) refl
+    (⊎-elim (λ e. absurd (omega arith)) (λ e. absurd (omega arith)))
 
 first-row : (r : Record) × Row 12 1 r (rowText 12 1 first) × Packs r (bytes 20 (number first))
 first-row = (first, row-spelled first-formed (v12 (omega arith) (omega arith)) (omega arith) (omega arith), record { formed = first-formed; packed = refl })

@@ -1,7 +1,7 @@
 -- Wrong answers of `read`, `write` and `export`: each is refuted over its promise.
 use Prim.Native.Nat.{ℕ, suc, _≤_}
 use mathlib.Core.Path.{_≡_, refl, ap}
-use mathlib.Core.Logic.{_≢_, inr, ⊎-elim}
+use mathlib.Core.Logic.{_≢_, inr}
 use mathlib.Core.List.{List, [], _∷_, _++_}
 use native.Mathlib.Omega.{arith}
 use lib.ListN.{length}
@@ -13,7 +13,6 @@ use Rattle.records.specs.StepBack.{backFrom, stepBack}
 use Rattle.records.proofs.Records.{holds-one}
 use Rattle.fields.specs.Runs.{empty}
 use Rattle.row.specs.Row.{Row}
-use Rattle.row.specs.Carries.{Carries, v12}
 use Rattle.row.proofs.Plain.{row-some}
 use Rattle.lines.specs.Lines.{one}
 use Rattle.lines.proofs.Theorems.{version-line-text, version-line-inside, startLine, start-line-text, start-line-inside}
@@ -29,42 +28,25 @@ use Rattle.trace_writer.specs.Promise.{WritePromise}
 use Rattle.trace_writer.proofs.Answers as writing
 use Rattle.ascii.specs.Promise.{lineCount, ExportPromise}
 use Rattle.ascii.proofs.Answers as exporting
+use Rattle.tightness.specs.Tight.{received}
+use Rattle.tightness.proofs.Tried.{received-formed, received-carried}
 
 -- read
 
 -- offsets 3, 2 and 1: the first step back is row 2, and not the last, row 3
-abbrev frameAt : ℕ → Record
-frameAt offset = record { offset = offset; bus = 1; kind = 0; extended = 0; id = 1; len = 0; «data» = 0 }
-
 abbrev pub falling : Trace
-falling = traceOf 12 0 (frameAt 3 ∷ frameAt 2 ∷ frameAt 1 ∷ [])
+falling = traceOf 12 0 (received 3 1 ∷ received 2 1 ∷ received 1 1 ∷ [])
 
-frame-formed : (offset : ℕ) → offset ≤ offsetLimit → WellFormed (frameAt offset)
-frame-formed offset h = record {
-  offset = h;
-  bus = omega arith;
-  kind = omega arith;
-  extended = omega arith;
-  standard = λ e. omega arith;
-  id = omega arith;
-  len = omega arith;
-  eight = omega arith;
-  past = omega arith;
-  remote = ⊎-elim (λ e. absurd (omega arith)) (λ e. absurd (omega arith));
-  warning = λ e. absurd (omega arith);
-  error = λ e. absurd (omega arith);
-}
-
-frame-carried : (offset : ℕ) → Carries (frameAt offset) 12
-frame-carried offset = v12 (omega arith) (omega arith)
+formed : (offset : ℕ) → offset ≤ offsetLimit → WellFormed (received offset 1)
+formed offset h = received-formed offset 1 h (omega arith)
 
 falling-writable : Writable falling
 falling-writable = record {
   version = inr refl;
   start = omega arith;
   few = omega arith;
-  formed = more (frame-formed 3 (omega arith)) (more (frame-formed 2 (omega arith)) (more (frame-formed 1 (omega arith)) none));
-  carried = more (frame-carried 3) (more (frame-carried 2) (more (frame-carried 1) none));
+  formed = more (formed 3 (omega arith)) (more (formed 2 (omega arith)) (more (formed 1 (omega arith)) none));
+  carried = more (received-carried 3 1) (more (received-carried 2 1) (more (received-carried 1 1) none));
 }
 
 pub last-step-back : {before after : List ℕ} → ReadPromise (traceText falling) before (0 ∷ 0 ∷ 12 ∷ 0 ∷ 3 ∷ 3 ∷ []) after → ⊥
