@@ -20,11 +20,11 @@ use Rattle.record.specs.declared.Record.{Record}
 use Rattle.record.specs.Record.{WellFormed}
 use Rattle.row.specs.Row
 use Rattle.row.specs.Carries.{Carries, v11, v12}
-use Rattle.row.specs.House.{numberText, markText, idText, dataTexts, rowTexts, rowText}
+use Rattle.row.specs.House.{numberText, markText, idText, dataTexts, frameTexts, rowTexts, rowText}
 use Rattle.row.proofs.Fields.{each-map}
 use Rattle.row.proofs.Formed.{error-small}
 use Rattle.row.proofs.Plain.{fields-plain}
-use Rattle.row.proofs.Texts.{joined-short, parted-joined, number-text, offset-text, mark-text, id-frame, id-warning, data-remote, data-bytes, markTexts, row-texts, row-texts-11, row-texts-12, row-sized}
+use Rattle.row.proofs.Texts.{joined-short, parted-joined, number-text, offset-text, mark-text, id-frame, id-warning, data-remote, data-bytes, row-texts, row-texts-11, row-texts-12, row-sized}
 
 -- Place value: the byte at 256 ^ m of a number, and those below it.
 high : (whole m : ℕ) → whole % 256 ^ suc m ≡ whole / 256 ^ m % 256 * 256 ^ m + whole % 256 ^ m
@@ -138,7 +138,7 @@ module _ {r : Record} (w : WellFormed r) where
       (bytes-spelled Row.Nothing Row.nothing (r .«data») 2 5 (256 ^ 5) _ refl (omega arith) (four-zero (x .len)) refl)
       (high (r .«data») 6)) (eight-bytes ∙ high (r .«data») 7))))
 
-  mark-spelled : (k : ℕ) → r .kind ≡ k → Row.FromMark r (markTexts r)
+  mark-spelled : (k : ℕ) → r .kind ≡ k → Row.FromMark r (frameTexts r)
   mark-spelled zero e = Row.rx (ap markText e ∙ mark-text 0) (frame 0 (λ z. omega arith) (received 0 (omega arith) e))
   mark-spelled (suc zero) e = Row.tx (ap markText e ∙ mark-text 1) (frame 1 (λ z. omega arith) (received 1 (omega arith) e))
   mark-spelled (suc (suc zero)) e =

@@ -1,6 +1,6 @@
 -- The house texts: what each is, case by case, how long it is, and that joined fields are parted so.
 use Prim.Native.Nat.{ℕ, zero, suc, _+_, _*_, _-_, _/_, _%_, _^_, _≤_, _<_}
-use mathlib.Core.Path.{_≡_, refl, sym, _∙_}
+use mathlib.Core.Path.{_≡_, refl}
 use mathlib.Core.Logic.{_≢_}
 use mathlib.Core.List.{List, [], _∷_, _++_, append-nil}
 use native.Mathlib.Decide.{ℕ-discrete}
@@ -22,7 +22,7 @@ use Rattle.fields.specs.Parted.{NoBlank, Parted, none, blank}
 use Rattle.fields.proofs.Parts.{first}
 use Rattle.record.specs.declared.Record.{Record}
 use Rattle.record.specs.Record.{WellFormed}
-use Rattle.row.specs.House.{numberText, offsetText, busTexts, marks, markText, idText, dataTexts, fractionDigits, rowTexts}
+use Rattle.row.specs.House.{numberText, offsetText, busTexts, marks, markText, idText, dataTexts, frameTexts, fractionDigits, rowTexts}
 use Rattle.row.specs.Carries.{Carries, v11, v12}
 use Rattle.row.proofs.Fields.{Each, no-more, then}
 
@@ -92,21 +92,17 @@ pub data-bytes : (r : Record) → r .kind / 2 ≢ 1 → dataTexts r ≡ byteText
 unfolding dataTexts
 data-bytes r n = rw (ne-eqb (r .kind / 2) 1 n)
 
--- From the mark on.
-abbrev pub markTexts : Record → List (List ℕ)
-markTexts r = markText (r .kind) ∷ idText r ∷ ((48 + r .len) ∷ []) ∷ dataTexts r
-
 -- The fields of a row, and in each version.
 pub row-texts : (v k : ℕ) (r : Record) → rowTexts v k r
-    ≡ numberText k ∷ offsetText v (r .offset) ∷ (busTexts v (r .bus) ++ markTexts r)
+    ≡ numberText k ∷ offsetText v (r .offset) ∷ (busTexts v (r .bus) ++ frameTexts r)
 unfolding rowTexts
 row-texts v k r = refl
 
-pub row-texts-11 : (k : ℕ) (r : Record) → rowTexts 11 k r ≡ numberText k ∷ offsetText 11 (r .offset) ∷ markTexts r
+pub row-texts-11 : (k : ℕ) (r : Record) → rowTexts 11 k r ≡ numberText k ∷ offsetText 11 (r .offset) ∷ frameTexts r
 row-texts-11 k r = rw (row-texts, bus-none)
 
 pub row-texts-12 : (k : ℕ) (r : Record) → rowTexts 12 k r
-    ≡ numberText k ∷ offsetText 12 (r .offset) ∷ decimalText (r .bus) ∷ markTexts r
+    ≡ numberText k ∷ offsetText 12 (r .offset) ∷ decimalText (r .bus) ∷ frameTexts r
 row-texts-12 k r = rw (row-texts, bus-text)
 
 -- How long each is.
@@ -172,7 +168,7 @@ data-size r h = go (ℕ-discrete (r .kind / 2) 1)
     go (yes e) = rw (data-remote r e) (fits 24 3 0 (omega arith, omega arith) (omega arith) nil)
     go (no n) = rw (data-bytes r n) (wider (3 * r .len) 24 (omega arith) (bytes-size (256 ^ 7) (r .len) (r .«data»)))
 
-mark-sized : {r : Record} → WellFormed r → Sized 41 (markTexts r)
+mark-sized : {r : Record} → WellFormed r → Sized 41 (frameTexts r)
 mark-sized {r} w =
     fits 41 5 35 (mark-size (r .kind) (w .kind)) (omega arith)
     (fits 35 8 26 (id-size r (w .extended)) (omega arith)

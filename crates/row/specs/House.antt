@@ -41,10 +41,14 @@ idText r = cond (eqb (r .kind) 4) (hexText Capital 8 0xFFFFFFFF) (hexText Capita
 unfoldable pub dataTexts : Record → List (List ℕ)
 dataTexts r = cond (eqb (r .kind / 2) 1) (remoteText ∷ []) (byteTexts Capital (256 ^ 7) (r .len) (r .«data»))
 
+-- The fields from the mark on.
+abbrev pub frameTexts : Record → List (List ℕ)
+frameTexts r = markText (r .kind) ∷ idText r ∷ ((48 + r .len) ∷ []) ∷ dataTexts r
+
 -- The fields of the row with number k and record r in version v.
 unfoldable pub rowTexts : ℕ → ℕ → Record → List (List ℕ)
 rowTexts v k r =
-    numberText k ∷ offsetText v (r .offset) ∷ (busTexts v (r .bus) ++ (markText (r .kind) ∷ idText r ∷ ((48 + r .len) ∷ []) ∷ dataTexts r))
+    numberText k ∷ offsetText v (r .offset) ∷ (busTexts v (r .bus) ++ frameTexts r)
 
 -- The row, as it is written.
 abbrev pub rowText : ℕ → ℕ → Record → List ℕ

@@ -1,5 +1,5 @@
 -- The text of each column, by the tests that the writer makes.
-use Prim.Native.Nat.{ℕ, zero, suc, _+_, _*_, _/_, _%_, _^_, _≤_, _<_}
+use Prim.Native.Nat.{ℕ, zero, suc, _+_, _*_, _/_, _%_, _≤_, _<_}
 use mathlib.Core.Path.{_≡_, refl, ap, _∙_}
 use mathlib.Core.Logic.{⊎-elim}
 use mathlib.Core.List.{[], _∷_, _++_, append-nil}
@@ -16,7 +16,7 @@ use Rattle.digits.proofs.House.{length-fixed}
 use Rattle.record.specs.declared.Record.{Record}
 use Rattle.fields.specs.Columns.{markWarng, markError, remoteText}
 use Rattle.row.specs.House.{fractionDigits, numberText, offsetText, busTexts, markText, idText, dataTexts}
-use Rattle.row.proofs.Texts.{number-text, offset-text, id-warning, id-frame, data-remote}
+use Rattle.row.proofs.Texts.{number-text, offset-text, id-frame, data-remote}
 
 pub length-number : (k : ℕ) → length (numberText k) ≡ length (decimalText k) + 1
 length-number k = rw (number-text, length-append)

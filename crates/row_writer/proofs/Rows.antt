@@ -1,14 +1,14 @@
 -- The row as the writer puts it together: the fields before the mark, then those from the mark on, each behind one blank.
 use Prim.Native.Nat.{ℕ, _+_}
-use mathlib.Core.Path.{_≡_, refl, ap, _∙_}
-use mathlib.Core.List.{List, [], _∷_, _++_, append-assoc, append-nil}
+use mathlib.Core.Path.{_≡_, ap, _∙_}
+use mathlib.Core.List.{List, _∷_, _++_, append-assoc}
 use native.Mathlib.Omega.{arith}
 use lib.ListN.{length, length-append}
 use Rattle.base.specs.Spaced.{spaced, joined}
 use Rattle.base.proofs.Spaced.{spaced-more, spaced-append, joined-more}
 use Rattle.record.specs.declared.Record.{Record}
-use Rattle.row.specs.House.{numberText, offsetText, busTexts, markText, idText, dataTexts, rowTexts, rowText}
-use Rattle.row_writer.specs.Parts.{headTexts, frameTexts}
+use Rattle.row.specs.House.{numberText, offsetText, busTexts, markText, idText, dataTexts, frameTexts, rowTexts, rowText}
+use Rattle.row_writer.specs.Parts.{headTexts}
 
 -- The row is what is written.
 

@@ -20,8 +20,8 @@ ghost use Rattle.digits.specs.House.{decimalText, PairsOf};
 ghost use Rattle.fields.specs.Columns.{lastNumber};
 ghost use Rattle.record.specs.Record.{WellFormed};
 ghost use Rattle.row.specs.Carries.{Carries};
-ghost use Rattle.row.specs.House.{numberText, offsetText, busTexts, markText, idText, dataTexts, rowText};
-ghost use Rattle.row_writer.specs.Parts.{headTexts, frameTexts};
+ghost use Rattle.row.specs.House.{numberText, offsetText, busTexts, markText, idText, dataTexts, frameTexts, rowText};
+ghost use Rattle.row_writer.specs.Parts.{headTexts};
 
 // Row number and `)`. Its digits before the last are at hand.
 fn put_number(out: &mut [u8], at: usize, k: u64, tens: &[u8]) -> usize
