@@ -10,9 +10,13 @@ use Rattle.clock.specs.declared.DateTime.{DateTime}
 use Rattle.record.specs.declared.Record.{Record}
 use Rattle.ascii_line.specs.Line.{dateText, typeText, extendedTexts, directionText, idText}
 
+-- Two numbers of two digits, with this byte behind each.
+abbrev pub twoText : ℕ → ℕ → ℕ → List ℕ
+twoText m n b = paddedText 2 m ++ (b ∷ (paddedText 2 n ++ (b ∷ [])))
+
 -- `hh:mm:ss.`
 unfoldable pub clockText : DayTime → List ℕ
-clockText t = paddedText 2 (t .hour) ++ (58 ∷ (paddedText 2 (t .minute) ++ (58 ∷ (paddedText 2 (t .second) ++ (46 ∷ [])))))
+clockText t = twoText (t .hour) (t .minute) 58 ++ (paddedText 2 (t .second) ++ (46 ∷ []))
 
 -- A stamp up to its point: all but its part.
 unfoldable pub secondText : DateTime → List ℕ

@@ -21,7 +21,19 @@ ghost use Rattle.digits.specs.House.{PairsOf};
 ghost use Rattle.digits.specs.declared.Letters.the-variants.{Small};
 ghost use Rattle.clock.specs.declared.DateTime.{DateTime as AnyStamp};
 ghost use Rattle.ascii_line.specs.Line.{dateText, idText, lineText};
-ghost use Rattle.ascii_line.specs.Parts.{clockText, secondText, Begins, sourceText, barText, wayText, dataText, restText, frameText};
+ghost use Rattle.ascii_line.specs.Parts.{twoText, clockText, secondText, Begins, sourceText, barText, wayText, dataText, restText, frameText};
+
+// Two numbers of two digits, with this byte behind each.
+fn put_two(out: &mut [u8], at: usize, m: u64, n: u64, b: u8) -> usize
+    requires { ⌜ at + 6 ≤ length (now out) ⌝ }
+    ensures { λ r. ⌜ Wrote (now (out .entry)) (now (out .exit)) at r (twoText m n b) ⌝ }
+    ensures { λ r. ⌜ r ≡ at + 6 ⌝ }
+{
+    let p = put_padded(out, at, 2, m);
+    let q = put_byte(out, p, b);
+    let s = put_padded(out, q, 2, n);
+    put_byte(out, s, b)
+}
 
 // `dd.mm.yyyy`
 fn put_date(out: &mut [u8], at: usize, d: CalendarDay) -> usize
@@ -29,11 +41,8 @@ fn put_date(out: &mut [u8], at: usize, d: CalendarDay) -> usize
     ensures { λ r. ⌜ Wrote (now (out .entry)) (now (out .exit)) at r (dateText d) ⌝ }
     ensures { λ r. ⌜ r ≡ at + 10 ⌝ }
 {
-    let a = put_padded(out, at, 2, d.day);
-    let b = put_byte(out, a, 46);
-    let c = put_padded(out, b, 2, d.month);
-    let e = put_byte(out, c, 46);
-    put_padded(out, e, 4, d.year)
+    let p = put_two(out, at, d.day, d.month, 46);
+    put_padded(out, p, 4, d.year)
 }
 
 // `hh:mm:ss.`
@@ -42,12 +51,9 @@ fn put_clock(out: &mut [u8], at: usize, t: DayTime) -> usize
     ensures { λ r. ⌜ Wrote (now (out .entry)) (now (out .exit)) at r (clockText t) ⌝ }
     ensures { λ r. ⌜ r ≡ at + 9 ⌝ }
 {
-    let a = put_padded(out, at, 2, t.hour);
-    let b = put_byte(out, a, 58);
-    let c = put_padded(out, b, 2, t.minute);
-    let d = put_byte(out, c, 58);
-    let e = put_padded(out, d, 2, t.second);
-    put_byte(out, e, 46)
+    let p = put_two(out, at, t.hour, t.minute, 58);
+    let q = put_padded(out, p, 2, t.second);
+    put_byte(out, q, 46)
 }
 
 // Puts a stamp up to its point, `dd.mm.yyyy hh:mm:ss.`: all but its part, and the same for every stamp of a second.
@@ -101,10 +107,7 @@ fn put_id(out: &mut [u8], at: usize, r: Record) -> usize
     ensures { λ e. ⌜ Wrote (now (out .entry)) (now (out .exit)) at e (32 ∷ idText r) ⌝ }
 {
     let p = put_byte(out, at, 32);
-    if r.extended == 1 {
-        return put_hex(out, p, 8, r.id, Letters::Small);
-    }
-    put_hex(out, p, 3, r.id, Letters::Small)
+    put_hex(out, p, 3 + 5 * r.extended as usize, r.id, Letters::Small)
 }
 
 // Length and bytes.

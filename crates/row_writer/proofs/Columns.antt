@@ -10,13 +10,12 @@ use lib.ListN.{length, length-append}
 use Rattle.base.specs.Spaced.{spaced}
 use Rattle.base.proofs.Numbers.{below-or-not}
 use Rattle.base.proofs.Spaced.{spaced-none, spaced-more}
-use Rattle.digits.specs.declared.Letters.the-variants.{Capital}
-use Rattle.digits.specs.House.{decimalText, paddedText, hexText}
+use Rattle.digits.specs.House.{decimalText, paddedText}
 use Rattle.digits.proofs.House.{length-fixed}
 use Rattle.record.specs.declared.Record.{Record}
 use Rattle.fields.specs.Columns.{markWarng, markError, remoteText}
 use Rattle.row.specs.House.{fractionDigits, numberText, offsetText, busTexts, markText, idText, dataTexts}
-use Rattle.row.proofs.Texts.{number-text, offset-text, id-frame, data-remote}
+use Rattle.row.proofs.Texts.{number-text, offset-text, id-warning, id-frame, data-remote}
 
 pub length-number : (k : ℕ) → length (numberText k) ≡ length (decimalText k) + 1
 length-number k = rw (number-text, length-append)
@@ -66,11 +65,11 @@ short-mark kind h = ap length (frame-mark kind h)
 pub long-mark : (kind : ℕ) → 4 ≤ kind → kind ≤ 5 → length (markText kind) ≡ 5
 long-mark kind h l = ⊎-elim (λ p. ap length (warng kind (omega arith))) (λ p. ap length (error kind (omega arith))) (below-or-not kind 5)
 
-pub extended-id : (r : Record) → (r .kind ≡ 4 → ⊥) → r .extended ≡ 1 → idText r ≡ hexText Capital 8 (r .id)
-extended-id r f e = id-frame r f ∙ rw e
+pub length-warning-id : (r : Record) → r .kind ≡ 4 → length (idText r) ≡ 8
+length-warning-id r e = rw (id-warning r e, length-fixed)
 
-pub standard-id : (r : Record) → (r .kind ≡ 4 → ⊥) → r .extended ≡ 0 → idText r ≡ hexText Capital 4 (r .id)
-standard-id r f e = id-frame r f ∙ rw e
+pub length-frame-id : (r : Record) → (r .kind ≡ 4 → ⊥) → length (idText r) ≡ 4 + 4 * r .extended
+length-frame-id r f = rw (id-frame r f, length-fixed)
 
 pub remote-data : (r : Record) → r .kind / 2 ≡ 1 → spaced (dataTexts r) ≡ 32 ∷ remoteText
 remote-data r e = rw (data-remote r e, spaced-more, spaced-none)

@@ -121,10 +121,7 @@ fn put_id(out: &mut [u8], at: usize, r: Record) -> usize
     if r.kind == 4 {
         return put_hex(out, p, 8, 0xFFFFFFFF, Letters::Capital);
     }
-    if r.extended == 1 {
-        return put_hex(out, p, 8, r.id, Letters::Capital);
-    }
-    put_hex(out, p, 4, r.id, Letters::Capital)
+    put_hex(out, p, 4 + 4 * r.extended as usize, r.id, Letters::Capital)
 }
 
 fn id_length(r: Record) -> usize
@@ -134,10 +131,7 @@ fn id_length(r: Record) -> usize
     if r.kind == 4 {
         return 9;
     }
-    if r.extended == 1 {
-        return 9;
-    }
-    5
+    5 + 4 * r.extended as usize
 }
 
 // `RTR` for a remote frame, else the bytes.
