@@ -1,6 +1,6 @@
 -- What the writers' loops keep: they put a number in a fixed width from the last digit to the first, in any base. And what a writer leaves
 -- at the start.
-use Prim.Native.Nat.{ℕ, suc, _+_, _/_, _%_, _≤_, _<_}
+use Prim.Native.Nat.{ℕ, suc, _+_, _/_, _%_, _^_, _≤_, _<_}
 use mathlib.Core.Path.{_≡_, refl, ap, sym, _∙_}
 use mathlib.Core.List.{List, [], _∷_, _++_, append-nil, append-assoc}
 use native.Mathlib.Nat.{add-zero, add-suc}
@@ -9,8 +9,8 @@ use lib.ListN.{length, take, drop, set}
 use lib.Seq.{sets, set-comm, take-at}
 use Rattle.base.specs.Wrote.{Wrote}
 use Rattle.base.proofs.Lists.{at-start}
-use Rattle.digits.specs.House.{fixed}
-use Rattle.digits.proofs.House.{fixed-zero, fixed-step, length-fixed}
+use Rattle.digits.specs.House.{fixed, decimalText, Kept}
+use Rattle.digits.proofs.House.{fixed-zero, fixed-step, length-fixed, word-few}
 
 -- a byte before those that are put may be put first
 set-first : (s l : List ℕ) (i k x : ℕ) → i < k → set (sets l k s) i x ≡ sets (set l i x) k s
@@ -47,3 +47,7 @@ module _ (g : ℕ → ℕ) (b : ℕ) where
 -- Bytes put at the start are the first.
 pub put-first : {old new t : List ℕ} {e : ℕ} → Wrote old new 0 e t → length t ≤ length old → take e new ≡ t
 put-first {old} {t = t} {e = e} w h = ap (take e) (at-start w h) ∙ take-at t (drop (length t) old) e (omega (arith, w .next))
+
+-- So are the digits of a number of 64 bits that is put at the start of twenty bytes.
+pub kept-first : {n e : ℕ} {old new : List ℕ} → n < 2 ^ 64 → 20 ≤ length old → Wrote old new 0 e (decimalText n) → Kept n new e
+kept-first {n} h l w = let f = word-few n h in record { text = put-first w (omega arith); few = omega (arith, w .next) }

@@ -12,7 +12,7 @@ ghost use Rattle.base.specs.Wrote.{Wrote};
 ghost use Rattle.digits.specs.declared.Letters.{Letters};
 ghost use Rattle.digits.specs.Answer.{Answers, DigitOr255, ReadDecimal, ReadPadded, ReadHex};
 ghost use Rattle.digits.specs.Digits.{HexDigit, IsHex};
-ghost use Rattle.digits.specs.House.{glyphOf, PairsOf, paddedText, hexText, decimalText, byteTexts};
+ghost use Rattle.digits.specs.House.{glyphOf, PairsOf, paddedText, hexText, decimalText, Kept, byteTexts};
 
 pub enum Number {
     Value(u64),
@@ -190,30 +190,38 @@ pub fn put_padded(out: &mut [u8], at: usize, w: usize, n: u64) -> usize
     at + w
 }
 
-// Puts n in decimal at a position as `put_decimal` does, where the digits of one number, `known`, are at hand as `kept`. The writer calls itself on n over
-// ten, then puts the last digit; it ends at that number as it does at one digit, so that what has not changed since the row before is not divided again.
-pub fn put_kept(out: &mut [u8], at: usize, n: u64, known: u64, kept: &[u8]) -> usize
-    requires { ⌜ now kept ≡ decimalText known ⌝ }
+// Puts n in decimal at a position as `put_decimal` does, where the digits of one number, `known`, are at hand in `kept`. The writer calls itself on n over
+// ten, then puts the last digit; it ends at that number as it does at one digit, so that what has not changed since the row before is not divided again. The
+// array is a thin reference: a slice would go through memory at each call.
+pub fn put_kept(
+    out: &mut [u8],
+    at: usize,
+    n: u64,
+    known: u64,
+    kept: &[u8; 20],
+    digits: usize,
+) -> usize
+    requires { ⌜ Kept known (now kept) digits ⌝ }
     requires { ⌜ at + length (decimalText n) ≤ length (now out) ⌝ }
     ensures { λ r. ⌜ Wrote (now (out .entry)) (now (out .exit)) at r (decimalText n) ⌝ }
 {
     if n == known {
-        return put_text(out, at, kept);
+        let bytes: &[u8] = kept;
+        return put_text(out, at, &bytes[..digits]);
     }
     if n < 10 {
         out[at] = 48 + n as u8;
         return at + 1;
     }
-    let q = put_kept(out, at, n / 10, known, kept);
+    let q = put_kept(out, at, n / 10, known, kept, digits);
     out[q] = 48 + (n % 10) as u8;
     q + 1
 }
 
 // Puts n in decimal at the start of an array, unless it is the number that stands there already, and gives how many digits it has.
 pub fn renew(kept: &mut [u8; 20], digits: usize, last: u64, n: u64) -> usize
-    requires { ⌜ (take digits (now kept) ≡ decimalText last) × (digits ≤ 20) ⌝ }
-    ensures { λ d. ⌜ take d (now (kept .exit)) ≡ decimalText n ⌝ }
-    ensures { λ d. ⌜ (d ≤ 20) × (d ≤ length (now (kept .exit))) ⌝ }
+    requires { ⌜ Kept last (now kept) digits ⌝ }
+    ensures { λ d. ⌜ Kept n (now (kept .exit)) d ⌝ }
 {
     let slots: &mut [u8] = kept;
     if n == last {

@@ -16,20 +16,20 @@ ghost use lib.ListN.{length};
 ghost use Rattle.base.specs.Spaced.{spaced, joined};
 ghost use Rattle.base.specs.Wrote.{Wrote};
 ghost use Rattle.digits.specs.declared.Letters.the-variants.{Capital};
-ghost use Rattle.digits.specs.House.{decimalText, PairsOf};
+ghost use Rattle.digits.specs.House.{PairsOf, Kept};
 ghost use Rattle.fields.specs.Columns.{lastNumber};
 ghost use Rattle.record.specs.Record.{WellFormed};
 ghost use Rattle.row.specs.Carries.{Carries};
 ghost use Rattle.row.specs.House.{numberText, offsetText, busTexts, markText, idText, dataTexts, frameTexts, rowText};
 ghost use Rattle.row_writer.specs.Parts.{headTexts};
 
-// Row number and `)`. Its digits before the last are at hand.
-fn put_number(out: &mut [u8], at: usize, k: u64, tens: &[u8]) -> usize
+// Row number and `)`. Its digits before the last are at hand: the first t of `tens`.
+fn put_number(out: &mut [u8], at: usize, k: u64, tens: &[u8; 20], t: usize) -> usize
     requires { ⌜ at + length (numberText k) ≤ length (now out) ⌝ }
-    requires { ⌜ now tens ≡ decimalText (k / 10) ⌝ }
+    requires { ⌜ Kept (k / 10) (now tens) t ⌝ }
     ensures { λ r. ⌜ Wrote (now (out .entry)) (now (out .exit)) at r (numberText k) ⌝ }
 {
-    let p = put_kept(out, at, k, k / 10, tens);
+    let p = put_kept(out, at, k, k / 10, tens, t);
     put_byte(out, p, 41)
 }
 
@@ -39,14 +39,22 @@ fn number_length(k: u64) -> usize
     decimal_length(k) + 1
 }
 
-// Offset in milliseconds: one digit behind the point in version 1.1, three in version 1.2. The digits of its whole seconds are at hand.
-fn put_offset(out: &mut [u8], at: usize, version: u64, offset: u64, seconds: &[u8]) -> usize
+// Offset in milliseconds: one digit behind the point in version 1.1, three in version 1.2. The digits of its whole seconds are at hand: the first
+// u of `seconds`.
+fn put_offset(
+    out: &mut [u8],
+    at: usize,
+    version: u64,
+    offset: u64,
+    seconds: &[u8; 20],
+    u: usize,
+) -> usize
     requires { ⌜ at + length (32 ∷ offsetText version offset) ≤ length (now out) ⌝ }
-    requires { ⌜ now seconds ≡ decimalText (offset / 1000 / 1000) ⌝ }
+    requires { ⌜ Kept (offset / 1000 / 1000) (now seconds) u ⌝ }
     ensures { λ r. ⌜ Wrote (now (out .entry)) (now (out .exit)) at r (32 ∷ offsetText version offset) ⌝ }
 {
     let p = put_byte(out, at, 32);
-    let q = put_kept(out, p, offset / 1000, offset / 1000 / 1000, seconds);
+    let q = put_kept(out, p, offset / 1000, offset / 1000 / 1000, seconds, u);
     let s = put_byte(out, q, 46);
     if version == 11 {
         return put_padded(out, s, 1, offset % 1000 / 100);
@@ -164,16 +172,18 @@ fn put_head(
     version: u64,
     k: u64,
     r: Record,
-    tens: &[u8],
-    seconds: &[u8],
+    tens: &[u8; 20],
+    t: usize,
+    seconds: &[u8; 20],
+    u: usize,
 ) -> usize
     requires { ⌜ at + length (joined (headTexts version k r)) ≤ length (now out) ⌝ }
-    requires { ⌜ now tens ≡ decimalText (k / 10) ⌝ }
-    requires { ⌜ now seconds ≡ decimalText (r .offset / 1000 / 1000) ⌝ }
+    requires { ⌜ Kept (k / 10) (now tens) t ⌝ }
+    requires { ⌜ Kept (r .offset / 1000 / 1000) (now seconds) u ⌝ }
     ensures { λ e. ⌜ Wrote (now (out .entry)) (now (out .exit)) at e (joined (headTexts version k r)) ⌝ }
 {
-    let p = put_number(out, at, k, tens);
-    let q = put_offset(out, p, version, r.offset, seconds);
+    let p = put_number(out, at, k, tens, t);
+    let q = put_offset(out, p, version, r.offset, seconds, u);
     put_bus(out, q, version, r.bus)
 }
 
@@ -201,24 +211,26 @@ pub fn row_length(version: u64, k: u64, r: Record) -> usize
 }
 
 // Puts the row with number k and record r in a version at a position, and gives the position after it. Of the row number it takes the
-// digits before the last, of the offset those of its whole seconds, as they were kept from the row before.
+// digits before the last, of the offset those of its whole seconds, as they were kept from the row before: t and u are how many.
 pub fn put_row(
     out: &mut [u8],
     at: usize,
     version: u64,
     k: u64,
     r: Record,
-    tens: &[u8],
-    seconds: &[u8],
+    tens: &[u8; 20],
+    t: usize,
+    seconds: &[u8; 20],
+    u: usize,
     pairs: &[u8; 512],
 ) -> usize
     requires { ⌜ WellFormed r × Carries r version × (1 ≤ k) × (k ≤ lastNumber) ⌝ }
     requires { ⌜ at + length (rowText version k r) ≤ length (now out) ⌝ }
-    requires { ⌜ now tens ≡ decimalText (k / 10) ⌝ }
-    requires { ⌜ now seconds ≡ decimalText (r .offset / 1000 / 1000) ⌝ }
+    requires { ⌜ Kept (k / 10) (now tens) t ⌝ }
+    requires { ⌜ Kept (r .offset / 1000 / 1000) (now seconds) u ⌝ }
     requires { ⌜ PairsOf Capital (now pairs) ⌝ }
     ensures { λ e. ⌜ Wrote (now (out .entry)) (now (out .exit)) at e (rowText version k r) ⌝ }
 {
-    let p = put_head(out, at, version, k, r, tens, seconds);
+    let p = put_head(out, at, version, k, r, tens, t, seconds, u);
     put_frame(out, p, r, pairs)
 }

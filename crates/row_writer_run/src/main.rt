@@ -34,16 +34,7 @@ fn line(version: u64, k: u64, r: Record)
         let mut seconds = [0u8; 20];
         let t = digits::put_decimal(&mut tens, 0, k / 10);
         let u = digits::put_decimal(&mut seconds, 0, r.offset / 1000 / 1000);
-        let end = row_writer::put_row(
-            &mut out,
-            2,
-            version,
-            k,
-            r,
-            &tens[..t],
-            &seconds[..u],
-            &pairs,
-        );
+        let end = row_writer::put_row(&mut out, 2, version, k, r, &tens, t, &seconds, u, &pairs);
         io::print_decimal(STDOUT_FILENO, size as u64);
         text(b" ");
         front(&out, end + 2);

@@ -175,7 +175,7 @@ fn put_rows(version: u64, records: &[u8], out: &mut [u8], from: usize)
         let second = r.offset / 1000 / 1000;
         u = renew(&mut seconds, u, last, second);
         last = second;
-        let q = put_row(out, p, version, k, r, &tens[..t], &seconds[..u], &pairs);
+        let q = put_row(out, p, version, k, r, &tens, t, &seconds, u, &pairs);
         p = put_end(out, q);
         at += 20;
     }

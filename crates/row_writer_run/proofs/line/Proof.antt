@@ -1,11 +1,9 @@
 -- `row_writer_run::line` meets its contract.
 use Prim.Native.Nat.{_/_}
-use mathlib.Core.Path.{sym}
 use native.Mathlib.Omega.{arith}
 use borrow.Author.Needs.{needs}
-use lib.Seq.{length-take-le}
 use Rattle.digits.proofs.House.{word-few}
-use Rattle.digits.proofs.Writers.{put-first}
+use Rattle.digits.proofs.Writers.{kept-first}
 use Rattle.row_writer_run.proofs.line.Statement.{statement}
 use Rattle.row_writer_run.proofs.line.Tie as tie
 
@@ -27,30 +25,12 @@ line-spec =
     let a = c .before .before .before .before .before .before .before .before .before .before in
     omega (arith, word-few (a .args .r .offset / 1000 / 1000) (omega (arith, a .pre .0 .offset))))
     (λ c. search needs)
-    (λ c.
-    let p = c .before .before .before .before .before .before in
-    let a = p .before .before .before .before .before .before .before in
-    omega (arith, word-few (a .args .k / 10) (omega arith), p .put-decimal .ensures .next))
-    (λ c.
-    let p = c .before .before .before .before .before .before .before in
-    let a = p .before .before .before .before .before .before .before in
-    sym (length-take-le _ _ (omega (arith, word-few (a .args .k / 10) (omega arith), p .put-decimal .ensures .next))))
-    (λ c.
-    let q = c .before .before .before in
-    let a = q .before .before .before .before .before .before .before .before .before .before .before in
-    omega (arith, word-few (a .args .r .offset / 1000 / 1000) (omega (arith, a .pre .0 .offset)), q .put-decimal2 .ensures .next))
-    (λ c.
-    let q = c .before .before .before .before in
-    let a = q .before .before .before .before .before .before .before .before .before .before .before in
-    sym (length-take-le _ _ (omega (arith, word-few (a .args .r .offset / 1000 / 1000) (omega (arith, a .pre .0 .offset)), q .put-decimal2 .ensures .next))))
     (λ c κs.
     let q = c .before .before .before .before .before in
     let p = q .before .before .before .before in
     let a = p .before .before .before .before .before .before .before in
-    let x = word-few (a .args .k / 10) (omega arith) in
-    let y = word-few (a .args .r .offset / 1000 / 1000) (omega (arith, a .pre .0 .offset)) in
-    let t = put-first (p .put-decimal .ensures) x in
-    let u = put-first (q .put-decimal2 .ensures) y in
+    let t = kept-first (omega arith) (omega arith) (p .put-decimal .ensures) in
+    let u = kept-first (omega (arith, a .pre .0 .offset)) (omega arith) (q .put-decimal2 .ensures) in
     ((a .pre .0, a .pre .1, omega arith, omega arith), (omega arith, (t, (u, p .before .before .pairs .ensures)))))
     (λ c κs. search needs)
     (λ c. search needs)

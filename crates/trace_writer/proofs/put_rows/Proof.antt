@@ -1,13 +1,12 @@
 -- `trace_writer::put_rows` keeps: the rows of the records up to `at` are put; `tens` starts with the digits of the last row number over ten, and
 -- `seconds` with those of the second `last`.
 use Prim.Native.Nat.{_+_, _-_, _/_, _≤_}
-use mathlib.Core.Path.{_≡_, refl, sym}
+use mathlib.Core.Path.{_≡_, refl}
 use native.Mathlib.Omega.{arith}
-use lib.ListN.{length, take}
-use lib.Seq.{length-take-le}
-use Rattle.digits.specs.House.{decimalText}
+use lib.ListN.{length}
+use Rattle.digits.specs.House.{Kept}
 use Rattle.digits.proofs.House.{length-one}
-use Rattle.digits.proofs.Writers.{put-first}
+use Rattle.digits.proofs.Writers.{kept-first}
 use Rattle.records.proofs.Records.{packed-there}
 use Rattle.records.proofs.Ahead.{next-whole, next-place}
 use Rattle.trace_writer.proofs.Putting.{Putting, putting, next-row, next-room, put-more, rows-put}
@@ -16,7 +15,7 @@ use Rattle.trace_writer.proofs.put_rows.Tie as tie
 
 abbrev Inv-loop : tie.InvT-loop
 Inv-loop version s out₀ from at₀ k₀ p₀ pairs last₀ tens₀ seconds₀ t₀ u₀ out at k p last tens seconds t u =
-    Putting version s out₀ out from at k p × (take t tens ≡ decimalText (k / 10)) × (t ≤ 20) × (take u seconds ≡ decimalText last) × (u ≤ 20)
+    Putting version s out₀ out from at k p × Kept (k / 10) tens t × Kept last seconds u
 
 abbrev μ-loop : tie.MeasureT-loop
 μ-loop version s out₀ from at₀ k₀ p₀ pairs last₀ tens₀ seconds₀ t₀ u₀ out at k p last tens seconds t u = length s - at
@@ -35,31 +34,26 @@ put-rows-spec =
     (λ c. refl)
     (λ c κs. omega (arith, length-one 0 (omega arith)))
     (λ c.
-    let o = length-one 0 (omega arith) in
     let x = c .before .before .before .before .put-decimal .ensures in
     let y = c .before .put-decimal2 .ensures in
-    (putting (c .before .before .before .before .before .before .before .before .before .pre), put-first x (omega arith), omega (arith, x .next), put-first y (omega arith), omega (arith, y .next)))
+    (putting (c .before .before .before .before .before .before .before .before .before .pre), kept-first (omega arith) (omega arith) x, kept-first (omega arith) (omega arith) y))
     (λ c. let n = c .before .loop .inv .0 .few in omega arith)
     (λ c. omega arith)
     (λ c κs.
     let l = c .before .before .loop in
     let e : l .k + 1 - 1 ≡ l .k = omega arith in
-    (rw e (l .inv .1), l .inv .2))
+    rw e (l .inv .1))
     (λ c κs.
     let l = c .before .before .before .loop .inv .0 .records in
     let h = next-place l (c .before .before .loop-test .taken) in
     packed-there (l .whole) (omega arith) (omega arith))
-    (λ c κs. let l = c .before .before .before .before .before .before .loop .inv in (l .3, l .4))
-    (λ c. c .before .before .before .before .before .renew .ensures .1 .1)
-    (λ c. sym (length-take-le _ _ (c .before .before .before .before .before .before .renew .ensures .1 .1)))
-    (λ c. c .before .before .renew2 .ensures .1 .1)
-    (λ c. sym (length-take-le _ _ (c .before .before .before .renew2 .ensures .1 .1)))
+    (λ c κs. c .before .before .before .before .before .before .loop .inv .2)
     (λ c κs.
     let l = c .before .before .before .before .before .before .before .before .before .before .before .loop .inv .0 in
     let t = c .before .before .before .before .before .before .before .before .before .before .loop-test .taken in
     let r = c .before .before .before .before .before .before .before .packed-at .ensures in
     let n = next-row l t r in
-    ((n .0, n .1, omega arith, omega arith), (omega (arith, next-room l t r), (c .before .before .before .before .before .before .before .before .renew .ensures .0, (c .before .before .before .before .renew2 .ensures .0, c .before .before .before .before .before .before .before .before .before .before .before .before .before .before .before .before .before .before .pairs .ensures)))))
+    ((n .0, n .1, omega arith, omega arith), (omega (arith, next-room l t r), (c .before .before .before .before .before .before .before .before .renew .ensures, (c .before .before .before .before .renew2 .ensures, c .before .before .before .before .before .before .before .before .before .before .before .before .before .before .before .before .before .before .pairs .ensures)))))
     (λ c κs.
     let a = c .before .before .before .before .before .before .before .before .before .before .before in
     omega (arith, next-room (a .before .before .before .before .loop .inv .0) (a .before .before .before .loop-test .taken) (a .packed-at .ensures), c .before .before .before .put-row .ensures .next))
@@ -67,15 +61,11 @@ put-rows-spec =
     (λ c. omega (arith, whole c))
     (λ c.
     let a = c .before .before .before .before .before .before .before .before .before .before .before .before .before .before in
-    let l = a .before .before .before .before .loop .inv .0 in
-    let t = c .before .before .before .before .before .before .before .before .before .before .before .before .before .before .before .renew .ensures in
-    let u = c .before .before .before .before .before .before .before .before .before .before .before .renew2 .ensures in (
+    let l = a .before .before .before .before .loop .inv .0 in (
       put-more l (a .before .before .before .loop-test .taken) (a .packed-at .ensures) (c .before .before .before .before .before .before .put-row .ensures) (c .before .before .put-end .ensures)
           (omega (arith, l .same)),
-      t .0,
-      t .1 .0,
-      u .0,
-      u .1 .0,
+      c .before .before .before .before .before .before .before .before .before .before .before .before .before .before .before .renew .ensures,
+      c .before .before .before .before .before .before .before .before .before .before .before .renew2 .ensures,
     ))
     (λ c. c .before .loop .inv .0 .same)
     (λ c. rows-put (c .before .loop .inv .0) (c .loop-test .left)))
