@@ -1,3 +1,4 @@
 pub mod Decides
 pub mod Limits
+pub mod Text
 pub mod Wrote
