@@ -29,13 +29,13 @@ const HEX_DIGITS: u64 = 0x7E_0000_007E_03FF;
 pub fn is_hex(b: u8) -> bool
     ensures { λ r. ⌜ Decides (IsHex b) r ⌝ }
 {
-    if b < 48 {
+    if b < b'0' {
         return false;
     }
-    if 102 < b {
+    if b'f' < b {
         return false;
     }
-    if (HEX_DIGITS >> (b - 48) as u64) % 2 == 0 {
+    if (HEX_DIGITS >> (b - b'0') as u64) % 2 == 0 {
         return false;
     }
     true
@@ -71,13 +71,13 @@ pub fn read_padded(s: &[u8]) -> Number
     let mut i = 0;
     while i < s.len() {
         let b = s[i];
-        if b < 48 {
+        if b < b'0' {
             return Number::Not;
         }
-        if 57 < b {
+        if b'9' < b {
             return Number::Not;
         }
-        n = n * 10 + wide(b - 48);
+        n = n * 10 + wide(b - b'0');
         i += 1;
     }
     Number::Value(n)
@@ -90,7 +90,7 @@ pub fn read_decimal(s: &[u8]) -> Number
     if s.len() == 0 {
         return Number::Not;
     }
-    if s[0] == 48 {
+    if s[0] == b'0' {
         if 1 < s.len() {
             return Number::Not;
         }
@@ -161,11 +161,11 @@ pub fn put_decimal(out: &mut [u8], at: usize, n: u64) -> usize
     ensures { λ r. ⌜ Wrote (now (out .entry)) (now (out .exit)) at r (decimalText n) ⌝ }
 {
     if n < 10 {
-        out[at] = 48 + n as u8;
+        out[at] = b'0' + n as u8;
         return at + 1;
     }
     let p = put_decimal(out, at, n / 10);
-    out[p] = 48 + (n % 10) as u8;
+    out[p] = b'0' + (n % 10) as u8;
     p + 1
 }
 
@@ -180,7 +180,7 @@ pub fn put_padded(out: &mut [u8], at: usize, w: usize, n: u64) -> usize
     let mut i = w;
     while 0 < i {
         i -= 1;
-        out[at + i] = 48 + (m % 10) as u8;
+        out[at + i] = b'0' + (m % 10) as u8;
         m /= 10;
     }
     at + w
@@ -197,11 +197,11 @@ pub fn put_kept(out: &mut [u8], at: usize, n: u64, known: u64, kept: &[u8]) -> u
         return put_text(out, at, kept);
     }
     if n < 10 {
-        out[at] = 48 + n as u8;
+        out[at] = b'0' + n as u8;
         return at + 1;
     }
     let q = put_kept(out, at, n / 10, known, kept);
-    out[q] = 48 + (n % 10) as u8;
+    out[q] = b'0' + (n % 10) as u8;
     q + 1
 }
 
@@ -224,11 +224,11 @@ fn glyph(letters: Letters, d: u8) -> u8
     ensures { λ r. ⌜ r ≡ glyphOf letters d ⌝ }
 {
     if d < 10 {
-        return 48 + d;
+        return b'0' + d;
     }
     match letters {
-        Letters::Capital => 65 + (d - 10),
-        Letters::Small => 97 + (d - 10),
+        Letters::Capital => b'A' + (d - 10),
+        Letters::Small => b'a' + (d - 10),
     }
 }
 
