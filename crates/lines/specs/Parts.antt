@@ -4,6 +4,7 @@ use mathlib.Core.Path.{_≡_}
 use mathlib.Core.List.{List, _∷_, _++_}
 use lib.ListN.{length, drop}
 use lib.Seq.{slice}
+use Rattle.base.specs.Text.{blank, semicolon}
 use Rattle.digits.specs.Digits.{DecimalDigit, Decimal, Padded}
 use Rattle.clock.specs.Start.{Start, startLimit}
 use Rattle.fields.specs.Runs.{All, Stops}
@@ -12,7 +13,7 @@ use Rattle.lines.specs.declared.StartTime.the-variants as start-time
 use Rattle.lines.specs.Lines.{Blanks}
 
 abbrev pub Blank : ℕ → Type 0
-Blank b = b ≡ 32
+Blank b = b ≡ blank
 
 -- The byte is some decimal digit.
 abbrev pub Digit : ℕ → Type 0
@@ -30,14 +31,14 @@ pub record Opened (line : List ℕ) (at : ℕ) : Type 0 where
   pub low : 1 ≤ at
   pub within : at ≤ length line
   pub before : List ℕ
-  pub bytes : line ≡ 59 ∷ (before ++ drop at line)
+  pub bytes : line ≡ semicolon ∷ (before ++ drop at line)
   pub blanks : Blanks before
   pub stops : Stops Blank (drop at line)
 
 -- That place, or 0 if the line does not start with `;`.
 pub data OpenedOr0 (line : List ℕ) (at : ℕ) : Type 0 where
   opened : Opened line at → OpenedOr0 line at
-  none : at ≡ 0 → ((rest : List ℕ) → line ≡ 59 ∷ rest → ⊥) → OpenedOr0 line at
+  none : at ≡ 0 → ((rest : List ℕ) → line ≡ semicolon ∷ rest → ⊥) → OpenedOr0 line at
 
 -- The bytes t stand in s from `at` on.
 pub record Stands (t s : List ℕ) (at : ℕ) : Type 0 where

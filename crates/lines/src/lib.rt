@@ -37,10 +37,10 @@ fn inside_end(text: &[u8], at: usize) -> usize
 {
     let mut e = at;
     while e < text.len() {
-        if text[e] == 13 {
+        if text[e] == b'\r' {
             return e;
         }
-        if text[e] == 10 {
+        if text[e] == b'\n' {
             return e;
         }
         e += 1;
@@ -57,10 +57,10 @@ pub fn line_end(text: &[u8], at: usize) -> Ending
     if text.len() - e < 2 {
         return Ending::Open;
     }
-    if text[e] != 13 {
+    if text[e] != b'\r' {
         return Ending::Open;
     }
-    if text[e + 1] != 10 {
+    if text[e + 1] != b'\n' {
         return Ending::Open;
     }
     Ending::At(e)
@@ -73,7 +73,7 @@ fn blanks_end(line: &[u8], at: usize) -> usize
 {
     let mut e = at;
     while e < line.len() {
-        if line[e] != 32 {
+        if line[e] != b' ' {
             return e;
         }
         e += 1;
@@ -88,10 +88,10 @@ fn digits_end(line: &[u8], at: usize) -> usize
 {
     let mut e = at;
     while e < line.len() {
-        if line[e] < 48 {
+        if line[e] < b'0' {
             return e;
         }
-        if 57 < line[e] {
+        if b'9' < line[e] {
             return e;
         }
         e += 1;
@@ -124,7 +124,7 @@ fn opened(line: &[u8]) -> usize
     if line.len() == 0 {
         return 0;
     }
-    if line[0] != 59 {
+    if line[0] != b';' {
         return 0;
     }
     blanks_end(line, 1)
@@ -148,10 +148,10 @@ pub fn version_line(line: &[u8]) -> u64
     if blanks_end(line, e + 1) != line.len() {
         return 0;
     }
-    if line[e] == 49 {
+    if line[e] == b'1' {
         return 11;
     }
-    if line[e] == 50 {
+    if line[e] == b'2' {
         return 12;
     }
     0
@@ -199,7 +199,7 @@ pub fn start_line(line: &[u8]) -> StartTime
     if point == line.len() {
         return StartTime::Not;
     }
-    if line[point] != 46 {
+    if line[point] != b'.' {
         return StartTime::Not;
     }
     let fraction = point + 1;
@@ -221,7 +221,7 @@ pub fn remark_of(line: &[u8]) -> Remark
     if a == line.len() {
         return Remark::Plain;
     }
-    if line[a] == 36 {
+    if line[a] == b'$' {
         return Remark::Dollar;
     }
     Remark::Plain
