@@ -4,9 +4,10 @@ use mathlib.Core.Bool.{cond}
 use mathlib.Core.List.{List, [], _∷_, _++_}
 use lib.Dec.{eqb}
 use lib.ListN.{getD}
+use Rattle.base.specs.Text.{blank, bracket, point}
 use Rattle.digits.specs.declared.Letters.{Letters}
 use Rattle.digits.specs.declared.Letters.the-variants.{Capital}
-use Rattle.digits.specs.House.{decimalText, paddedText, hexText}
+use Rattle.digits.specs.House.{figureOf, decimalText, paddedText, hexText}
 use Rattle.record.specs.declared.Record.{Record}
 use Rattle.fields.specs.Columns.{markRx, markTx, markWarng, markError, remoteText}
 
@@ -14,18 +15,18 @@ use Rattle.fields.specs.Columns.{markRx, markTx, markWarng, markError, remoteTe
 unfoldable pub joined : List (List ℕ) → List ℕ
 joined [] = []
 joined (f ∷ []) = f
-joined (f ∷ g ∷ fs) = f ++ (32 ∷ joined (g ∷ fs))
+joined (f ∷ g ∷ fs) = f ++ (blank ∷ joined (g ∷ fs))
 
 -- The number of digits behind the offset's point: one in version 1.1, three in version 1.2.
 abbrev pub fractionDigits : ℕ → ℕ
 fractionDigits v = cond (eqb v 11) 1 3
 
 unfoldable pub numberText : ℕ → List ℕ
-numberText k = decimalText k ++ (41 ∷ [])
+numberText k = decimalText k ++ (bracket ∷ [])
 
 unfoldable pub offsetText : ℕ → ℕ → List ℕ
 offsetText v offset =
-    decimalText (offset / 1000) ++ (46 ∷ paddedText (fractionDigits v) (offset % 1000 / 10 ^ (3 - fractionDigits v)))
+    decimalText (offset / 1000) ++ (point ∷ paddedText (fractionDigits v) (offset % 1000 / 10 ^ (3 - fractionDigits v)))
 
 -- A bus in version 1.2 only.
 unfoldable pub busTexts : ℕ → ℕ → List (List ℕ)
@@ -55,7 +56,7 @@ dataTexts r = cond (eqb (r .kind / 2) 1) (remoteText ∷ []) (byteTexts Capital 
 -- The fields of the row with number k and record r in version v.
 unfoldable pub rowTexts : ℕ → ℕ → Record → List (List ℕ)
 rowTexts v k r =
-    numberText k ∷ offsetText v (r .offset) ∷ (busTexts v (r .bus) ++ (markText (r .kind) ∷ idText r ∷ ((48 + r .len) ∷ []) ∷ dataTexts r))
+    numberText k ∷ offsetText v (r .offset) ∷ (busTexts v (r .bus) ++ (markText (r .kind) ∷ idText r ∷ (figureOf (r .len) ∷ []) ∷ dataTexts r))
 
 -- The row, as it is written.
 abbrev pub rowText : ℕ → ℕ → Record → List ℕ
