@@ -11,6 +11,7 @@ ghost use mathlib.Core.Path.{_≡_};
 ghost use mathlib.Core.List.{[], _∷_};
 ghost use Prim.Native.Nat.{_+_, _*_, _/_, _^_, _≤_, _<_};
 ghost use lib.ListN.{length};
+ghost use Rattle.base.specs.Text.{blank};
 ghost use Rattle.base.specs.Wrote.{Wrote};
 ghost use Rattle.digits.specs.declared.Letters.{Letters};
 ghost use Rattle.digits.specs.declared.Letters.the-variants.{Capital};
@@ -38,7 +39,7 @@ fn put_number(out: &mut [u8], at: usize, k: u64, tens: &[u8]) -> usize
     ensures { λ r. ⌜ Wrote (now (out .entry)) (now (out .exit)) at r (numberText k) ⌝ }
 {
     let p = put_kept(out, at, k, k / 10, tens);
-    put_byte(out, p, 41)
+    put_byte(out, p, b')')
 }
 
 fn number_length(k: u64) -> usize
@@ -49,13 +50,13 @@ fn number_length(k: u64) -> usize
 
 // Offset in milliseconds: one digit behind the point in version 1.1, three in version 1.2. The digits of its whole seconds are at hand.
 fn put_offset(out: &mut [u8], at: usize, version: u64, offset: u64, seconds: &[u8]) -> usize
-    requires { ⌜ at + length (32 ∷ offsetText version offset) ≤ length (now out) ⌝ }
+    requires { ⌜ at + length (blank ∷ offsetText version offset) ≤ length (now out) ⌝ }
     requires { ⌜ now seconds ≡ decimalText (offset / 1000 / 1000) ⌝ }
-    ensures { λ r. ⌜ Wrote (now (out .entry)) (now (out .exit)) at r (32 ∷ offsetText version offset) ⌝ }
+    ensures { λ r. ⌜ Wrote (now (out .entry)) (now (out .exit)) at r (blank ∷ offsetText version offset) ⌝ }
 {
-    let p = put_byte(out, at, 32);
+    let p = put_byte(out, at, b' ');
     let q = put_kept(out, p, offset / 1000, offset / 1000 / 1000, seconds);
-    let s = put_byte(out, q, 46);
+    let s = put_byte(out, q, b'.');
     if version == 11 {
         return put_padded(out, s, 1, offset % 1000 / 100);
     }
@@ -63,7 +64,7 @@ fn put_offset(out: &mut [u8], at: usize, version: u64, offset: u64, seconds: &[u
 }
 
 fn offset_length(version: u64, offset: u64) -> usize
-    ensures { λ r. ⌜ (r ≡ length (32 ∷ offsetText version offset)) × (r ≤ 25) ⌝ }
+    ensures { λ r. ⌜ (r ≡ length (blank ∷ offsetText version offset)) × (r ≤ 25) ⌝ }
 {
     let whole = decimal_length(offset / 1000);
     if version == 11 {
@@ -78,7 +79,7 @@ fn put_bus(out: &mut [u8], at: usize, version: u64, bus: u64) -> usize
     ensures { λ r. ⌜ Wrote (now (out .entry)) (now (out .exit)) at r (spaced (busTexts version bus)) ⌝ }
 {
     if version != 11 {
-        let p = put_byte(out, at, 32);
+        let p = put_byte(out, at, b' ');
         return put_decimal(out, p, bus);
     }
     at
@@ -93,26 +94,26 @@ fn bus_length(version: u64, bus: u64) -> usize
     decimal_length(bus) + 1
 }
 
-// `Rx`, `Tx`, `Warng` or `Error`. No branch tells `R`, byte 82, from `T`, byte 84: rows mix the two, and a branch that cannot be
+// `Rx`, `Tx`, `Warng` or `Error`. No branch tells `R` from `T`, which is two behind it: rows mix the two, and a branch that cannot be
 // predicted is slow.
 fn put_mark(out: &mut [u8], at: usize, kind: u64) -> usize
-    requires { ⌜ (kind ≤ 5) × (at + length (32 ∷ markText kind) ≤ length (now out)) ⌝ }
-    ensures { λ r. ⌜ Wrote (now (out .entry)) (now (out .exit)) at r (32 ∷ markText kind) ⌝ }
+    requires { ⌜ (kind ≤ 5) × (at + length (blank ∷ markText kind) ≤ length (now out)) ⌝ }
+    ensures { λ r. ⌜ Wrote (now (out .entry)) (now (out .exit)) at r (blank ∷ markText kind) ⌝ }
 {
     if kind < 4 {
-        return put_three(out, at, 32, 82 + 2 * (kind % 2) as u8, 120);
+        return put_three(out, at, b' ', b'R' + 2 * (kind % 2) as u8, b'x');
     }
     if kind == 4 {
-        let p = put_three(out, at, 32, 87, 97);
-        return put_three(out, p, 114, 110, 103);
+        let p = put_three(out, at, b' ', b'W', b'a');
+        return put_three(out, p, b'r', b'n', b'g');
     }
-    let q = put_three(out, at, 32, 69, 114);
-    put_three(out, q, 114, 111, 114)
+    let q = put_three(out, at, b' ', b'E', b'r');
+    put_three(out, q, b'r', b'o', b'r')
 }
 
 fn mark_length(kind: u64) -> usize
     requires { ⌜ kind ≤ 5 ⌝ }
-    ensures { λ r. ⌜ (r ≡ length (32 ∷ markText kind)) × (r ≤ 6) ⌝ }
+    ensures { λ r. ⌜ (r ≡ length (blank ∷ markText kind)) × (r ≤ 6) ⌝ }
 {
     if kind < 4 {
         return 3;
@@ -122,10 +123,10 @@ fn mark_length(kind: u64) -> usize
 
 // Eight F for a warning; else eight digits if extended, and four if not.
 fn put_id(out: &mut [u8], at: usize, r: Record) -> usize
-    requires { ⌜ (r .extended ≤ 1) × (at + length (32 ∷ idText r) ≤ length (now out)) ⌝ }
-    ensures { λ e. ⌜ Wrote (now (out .entry)) (now (out .exit)) at e (32 ∷ idText r) ⌝ }
+    requires { ⌜ (r .extended ≤ 1) × (at + length (blank ∷ idText r) ≤ length (now out)) ⌝ }
+    ensures { λ e. ⌜ Wrote (now (out .entry)) (now (out .exit)) at e (blank ∷ idText r) ⌝ }
 {
-    let p = put_byte(out, at, 32);
+    let p = put_byte(out, at, b' ');
     if r.kind == 4 {
         return put_hex(out, p, 8, 0xFFFFFFFF, Letters::Capital);
     }
@@ -137,7 +138,7 @@ fn put_id(out: &mut [u8], at: usize, r: Record) -> usize
 
 fn id_length(r: Record) -> usize
     requires { ⌜ r .extended ≤ 1 ⌝ }
-    ensures { λ n. ⌜ (n ≡ length (32 ∷ idText r)) × (n ≤ 9) ⌝ }
+    ensures { λ n. ⌜ (n ≡ length (blank ∷ idText r)) × (n ≤ 9) ⌝ }
 {
     if r.kind == 4 {
         return 9;
@@ -151,11 +152,11 @@ fn id_length(r: Record) -> usize
 // One data byte, from the table of pairs: the calls of `put_hex` for each digit would double the time that a row takes.
 fn put_pair(out: &mut [u8], at: usize, b: u64, pairs: &[u8; 512]) -> usize
     requires { ⌜ (b < 256) × (at + 3 ≤ length (now out)) ⌝ }
-    ensures { λ r. ⌜ ((x : Letters) → PairsOf x (now (pairs .entry)) → Wrote (now (out .entry)) (now (out .exit)) at r (32 ∷ hexText x 2 b)) ⌝ }
+    ensures { λ r. ⌜ ((x : Letters) → PairsOf x (now (pairs .entry)) → Wrote (now (out .entry)) (now (out .exit)) at r (blank ∷ hexText x 2 b)) ⌝ }
     ensures { λ r. ⌜ r ≡ at + 3 ⌝ }
 {
     let i = 2 * b as usize;
-    put_three(out, at, 32, pairs[i], pairs[i + 1])
+    put_three(out, at, b' ', pairs[i], pairs[i + 1])
 }
 
 // The first n of eight data bytes, each behind one blank, in the letter case of the table of pairs.
@@ -179,8 +180,8 @@ fn put_data(out: &mut [u8], at: usize, r: Record, pairs: &[u8; 512]) -> usize
     ensures { λ e. ⌜ Wrote (now (out .entry)) (now (out .exit)) at e (spaced (dataTexts r)) ⌝ }
 {
     if r.kind / 2 == 1 {
-        let p = put_byte(out, at, 32);
-        return put_three(out, p, 82, 84, 82);
+        let p = put_byte(out, at, b' ');
+        return put_three(out, p, b'R', b'T', b'R');
     }
     put_pairs(out, at, r.len, r.data, pairs)
 }
@@ -223,8 +224,8 @@ fn put_frame(out: &mut [u8], at: usize, r: Record, pairs: &[u8; 512]) -> usize
 {
     let p = put_mark(out, at, r.kind);
     let q = put_id(out, p, r);
-    let s = put_byte(out, q, 32);
-    let t = put_byte(out, s, 48 + r.len as u8);
+    let s = put_byte(out, q, b' ');
+    let t = put_byte(out, s, b'0' + r.len as u8);
     put_data(out, t, r, pairs)
 }
 
