@@ -3,6 +3,7 @@ use Prim.Native.Nat.{ℕ, _+_, _*_, _≤_, _<_}
 use mathlib.Core.Path.{_≡_}
 use mathlib.Core.List.{List, [], _∷_, _++_}
 use lib.ListN.{length, take, drop}
+use Rattle.base.specs.Text.{cr}
 use Rattle.record.specs.declared.Record.{Record}
 use Rattle.record.specs.Promise.{fieldsOf}
 use Rattle.records.specs.Records.{packed}
@@ -33,7 +34,7 @@ mostHeld = 4095
 pub record Windowed (text : List ℕ) (from : ℕ) (w : List ℕ) : Type 0 where
   pub held : ℕ
   pub behind : List ℕ
-  pub bytes : w ≡ take held (drop from text) ++ (13 ∷ behind)
+  pub bytes : w ≡ take held (drop from text) ++ (cr ∷ behind)
   pub within : from + held ≤ length text
   pub most : held < mostHeld → from + held ≡ length text
 

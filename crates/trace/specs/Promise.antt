@@ -4,6 +4,7 @@ use mathlib.Core.Path.{_≡_}
 use mathlib.Core.Logic.{_≢_}
 use mathlib.Core.List.{List, [], _∷_, _++_}
 use lib.ListN.{length, drop}
+use Rattle.base.specs.Text.{cr, lf}
 use Rattle.records.specs.Records.{packed}
 use Rattle.records.specs.StepBack.{stepBack}
 use Rattle.row_reader.specs.Answer.{lineLimit}
@@ -35,7 +36,7 @@ pub record Barred (n : ℕ) (line text : List ℕ) : Type 0 where
   pub reached : Reached n rest text
   pub after : List ℕ
   pub there : Line line after rest
-  pub never : Begins (reached .front ++ (line ++ (13 ∷ 10 ∷ []))) → ⊥
+  pub never : Begins (reached .front ++ (line ++ (cr ∷ lf ∷ []))) → ⊥
 
 -- The text is refused with this number at this line: the lines before it begin some acceptable text, and
 -- 2, what is left is not empty and starts with no ended line; 3, the line has more than 250 bytes; 4 and 5, line 1 or 2 is absent, or no

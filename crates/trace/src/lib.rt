@@ -169,7 +169,7 @@ fn row_at(
     if text.len() <= feed {
         return 0;
     }
-    if text[feed] != 10 {
+    if text[feed] != b'\n' {
         return 0;
     }
     feed + 1
@@ -245,7 +245,7 @@ fn fill(text: &[u8], from: usize, version: u64, start: u64, out: &mut [u8]) -> u
     let mut fields = [0u64; 7];
     fill_window(text, from, &mut w);
     while at < text.len() {
-        if text[at] == 59 {
+        if text[at] == b';' {
             let l = other_at(text, at);
             match l {
                 Other::Note(after) => {
