@@ -4,6 +4,7 @@ use mathlib.Core.Path.{_≡_}
 use mathlib.Core.Logic.{_≢_}
 use mathlib.Core.List.{List, [], _∷_, _++_}
 use lib.ListN.{length}
+use Rattle.base.specs.Text.{cr, lf}
 use Rattle.base.specs.Wrote.{Wrote}
 use Rattle.fields.specs.Columns.{lastNumber}
 use Rattle.record.specs.declared.Record.{Record}
@@ -17,7 +18,7 @@ use Rattle.trace_writer.specs.Promise.{FirstMisfit}
 
 -- A line with its end.
 abbrev pub ended : List ℕ → List ℕ
-ended line = line ++ (13 ∷ 10 ∷ [])
+ended line = line ++ (cr ∷ lf ∷ [])
 
 -- Lines 1 and 2.
 abbrev pub headText : ℕ → ℕ → List ℕ

@@ -21,6 +21,7 @@ ghost use mathlib.Core.List.{[], _∷_};
 ghost use Prim.Native.Nat.{_+_, _≤_};
 ghost use lib.ListN.{length};
 ghost use Rattle.base.specs.Decides.{Decides};
+ghost use Rattle.base.specs.Text.{cr, lf};
 ghost use Rattle.base.specs.Wrote.{Wrote};
 ghost use Rattle.clock.specs.Start.{startLimit};
 ghost use Rattle.fields.specs.Columns.{lastNumber};
@@ -46,10 +47,10 @@ pub enum Size {
 // CR LF.
 fn put_end(out: &mut [u8], at: usize) -> usize
     requires { ⌜ at + 2 ≤ length (now out) ⌝ }
-    ensures { λ r. ⌜ Wrote (now (out .entry)) (now (out .exit)) at r (13 ∷ 10 ∷ []) ⌝ }
+    ensures { λ r. ⌜ Wrote (now (out .entry)) (now (out .exit)) at r (cr ∷ lf ∷ []) ⌝ }
 {
-    let p = put_byte(out, at, 13);
-    put_byte(out, p, 10)
+    let p = put_byte(out, at, b'\r');
+    put_byte(out, p, b'\n')
 }
 
 // Line 1.
@@ -69,7 +70,7 @@ fn put_start_line(out: &mut [u8], at: usize, start: u64) -> usize
 {
     let p = put_text(out, at, b";$STARTTIME=");
     let q = put_decimal(out, p, start / 86400000);
-    let s = put_byte(out, q, 46);
+    let s = put_byte(out, q, b'.');
     let t = put_padded(out, s, 10, day_fraction(start % 86400000));
     put_end(out, t)
 }
