@@ -15,6 +15,7 @@ ghost use mathlib.Core.Path.{_≡_};
 ghost use mathlib.Core.List.{_∷_};
 ghost use Prim.Native.Nat.{_+_, _≤_};
 ghost use lib.ListN.{length};
+ghost use Rattle.base.specs.Text.{blank};
 ghost use Rattle.base.specs.Wrote.{Wrote};
 ghost use Rattle.digits.specs.House.{PairsOf};
 ghost use Rattle.digits.specs.declared.Letters.the-variants.{Small};
@@ -29,9 +30,9 @@ fn put_date(out: &mut [u8], at: usize, d: CalendarDay) -> usize
     ensures { λ r. ⌜ r ≡ at + 10 ⌝ }
 {
     let a = put_padded(out, at, 2, d.day);
-    let b = put_byte(out, a, 46);
+    let b = put_byte(out, a, b'.');
     let c = put_padded(out, b, 2, d.month);
-    let e = put_byte(out, c, 46);
+    let e = put_byte(out, c, b'.');
     put_padded(out, e, 4, d.year)
 }
 
@@ -42,11 +43,11 @@ fn put_clock(out: &mut [u8], at: usize, t: DayTime) -> usize
     ensures { λ r. ⌜ r ≡ at + 9 ⌝ }
 {
     let a = put_padded(out, at, 2, t.hour);
-    let b = put_byte(out, a, 58);
+    let b = put_byte(out, a, b':');
     let c = put_padded(out, b, 2, t.minute);
-    let d = put_byte(out, c, 58);
+    let d = put_byte(out, c, b':');
     let e = put_padded(out, d, 2, t.second);
-    put_byte(out, e, 46)
+    put_byte(out, e, b'.')
 }
 
 // Puts a stamp up to its point, `dd.mm.yyyy hh:mm:ss.`: all but its part, and the same for every stamp of a second.
@@ -57,7 +58,7 @@ pub fn put_second(out: &mut [u8; 20], s: DateTime)
     let date = s.date;
     let time = s.time;
     let p = put_date(slots, 0, date);
-    let q = put_byte(slots, p, 32);
+    let q = put_byte(slots, p, b' ');
     put_clock(slots, q, time);
 }
 
@@ -83,23 +84,23 @@ fn put_bar(out: &mut [u8], at: usize, extended: u64) -> usize
     put_text(out, at, b" | ")
 }
 
-// The bar, `EXTENDED` for an extended ID, and `Rx` or `Tx`. `R` is 82 and `T` 84: the byte is computed, since a branch on the kind
+// The bar, `EXTENDED` for an extended ID, and `Rx` or `Tx`. `T` is two behind `R`: the byte is computed, since a branch on the kind
 // would often be guessed wrong.
 fn put_way(out: &mut [u8], at: usize, extended: u64, kind: u64) -> usize
     requires { ⌜ (kind ≤ 1) × (at + length (wayText extended kind) ≤ length (now out)) ⌝ }
     ensures { λ r. ⌜ Wrote (now (out .entry)) (now (out .exit)) at r (wayText extended kind) ⌝ }
 {
     let p = put_bar(out, at, extended);
-    let q = put_byte(out, p, 82 + 2 * kind as u8);
-    put_byte(out, q, 120)
+    let q = put_byte(out, p, b'R' + 2 * kind as u8);
+    put_byte(out, q, b'x')
 }
 
 // Eight digits of an extended ID, three of a standard one.
 fn put_id(out: &mut [u8], at: usize, r: Record) -> usize
-    requires { ⌜ (r .extended ≤ 1) × (at + length (32 ∷ idText r) ≤ length (now out)) ⌝ }
-    ensures { λ e. ⌜ Wrote (now (out .entry)) (now (out .exit)) at e (32 ∷ idText r) ⌝ }
+    requires { ⌜ (r .extended ≤ 1) × (at + length (blank ∷ idText r) ≤ length (now out)) ⌝ }
+    ensures { λ e. ⌜ Wrote (now (out .entry)) (now (out .exit)) at e (blank ∷ idText r) ⌝ }
 {
-    let p = put_byte(out, at, 32);
+    let p = put_byte(out, at, b' ');
     if r.extended == 1 {
         return put_hex(out, p, 8, r.id, Letters::Small);
     }
@@ -111,8 +112,8 @@ fn put_data(out: &mut [u8], at: usize, r: Record, pairs: &[u8; 512]) -> usize
     requires { ⌜ (r .len ≤ 8) × (at + length (dataText r) ≤ length (now out)) × PairsOf Small (now pairs) ⌝ }
     ensures { λ e. ⌜ Wrote (now (out .entry)) (now (out .exit)) at e (dataText r) ⌝ }
 {
-    let p = put_byte(out, at, 32);
-    let q = put_byte(out, p, 48 + r.len as u8);
+    let p = put_byte(out, at, b' ');
+    let q = put_byte(out, p, b'0' + r.len as u8);
     put_pairs(out, q, r.len, r.data, pairs)
 }
 
