@@ -40,9 +40,9 @@ fn escape(b: u8) {
 // A byte of a text: CR, LF and what is no printable letter as they are written in a case.
 fn letter(b: u8) {
     match b {
-        13 => escape(b'r'),
-        10 => escape(b'n'),
-        32..=126 => byte(b),
+        b'\r' => escape(b'r'),
+        b'\n' => escape(b'n'),
+        b' '..=b'~' => byte(b),
         _ => {
             escape(b'x');
             io::print_hex(STDOUT_FILENO, wide(b), 2);
