@@ -8,6 +8,7 @@ use native.Mathlib.Omega.{arith}
 use lib.Dec.{T, leb, leb→le}
 use lib.ListN.{length, getD}
 use Rattle.base.proofs.Tables.{both, both-left, both-right, every, at}
+use Rattle.base.specs.Text.{text}
 use Rattle.digits.specs.declared.Letters.the-variants.{Capital}
 use Rattle.digits.specs.Digits.{Hex}
 use Rattle.digits.specs.House.{glyphOf, fixed}
@@ -21,7 +22,6 @@ use Rattle.record.specs.declared.Record.{Record}
 use Rattle.record.specs.Record.{WellFormed}
 use Rattle.row.specs.Row
 use Rattle.row.specs.House.{joined}
-use Rattle.papers.specs.Text.{text}
 use Rattle.papers.specs.Cases.{received}
 
 -- Each field has a byte, and none that is a blank or below; this antt computes.
