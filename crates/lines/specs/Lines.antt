@@ -7,6 +7,7 @@ use lib.ListN.{length}
 use Rattle.digits.specs.Digits.{Decimal, Padded}
 use Rattle.clock.specs.Start.{Start, startLimit}
 use Rattle.fields.specs.Runs.{All}
+use Rattle.row.specs.Versions.{Version, versionText}
 
 -- A byte before the end of a line: neither CR nor LF.
 pub record Inside (b : ℕ) : Type 0 where
@@ -23,19 +24,13 @@ pub record FirstLine (line rest text : List ℕ) : Type 0 where
 abbrev pub Blanks : List ℕ → Type 0
 Blanks s = All (λ b. b ≡ 32) s
 
--- `$FILEVERSION=1.1` and `$FILEVERSION=1.2`: versions 11 and 12.
-pub data VersionText : ℕ → List ℕ → Type 0 where
-  one : {s : List ℕ} → s ≡ 36 ∷ 70 ∷ 73 ∷ 76 ∷ 69 ∷ 86 ∷ 69 ∷ 82 ∷ 83 ∷ 73 ∷ 79 ∷ 78 ∷ 61 ∷ 49 ∷ 46 ∷ 49 ∷ [] → VersionText 11 s
-  two : {s : List ℕ} → s ≡ 36 ∷ 70 ∷ 73 ∷ 76 ∷ 69 ∷ 86 ∷ 69 ∷ 82 ∷ 83 ∷ 73 ∷ 79 ∷ 78 ∷ 61 ∷ 49 ∷ 46 ∷ 50 ∷ [] → VersionText 12 s
-
--- Line 1: `;`, any blanks, the version, any blanks.
+-- Line 1: `;`, any blanks, the text of a version, any blanks.
 pub record VersionLine (version : ℕ) (line : List ℕ) : Type 0 where
+  pub is : Version version
   pub before : List ℕ
-  pub text : List ℕ
   pub after : List ℕ
-  pub bytes : line ≡ 59 ∷ (before ++ (text ++ after))
+  pub bytes : line ≡ 59 ∷ (before ++ (versionText version ++ after))
   pub blanks : Blanks before
-  pub is : VersionText version text
   pub blank-end : Blanks after
 
 -- `$STARTTIME=`

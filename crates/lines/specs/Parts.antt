@@ -1,5 +1,5 @@
 -- What the readers of parts of a line promise to those that put them together.
-use Prim.Native.Nat.{ℕ, _≤_}
+use Prim.Native.Nat.{ℕ, _+_, _/_, _%_, _≤_}
 use mathlib.Core.Path.{_≡_}
 use mathlib.Core.List.{List, _∷_, _++_}
 use lib.ListN.{length, drop}
@@ -7,6 +7,7 @@ use lib.Seq.{slice}
 use Rattle.digits.specs.Digits.{DecimalDigit, Decimal, Padded}
 use Rattle.clock.specs.Start.{Start, startLimit}
 use Rattle.fields.specs.Runs.{All, Stops}
+use Rattle.row.specs.Versions.{Version}
 use Rattle.lines.specs.declared.StartTime.{StartTime}
 use Rattle.lines.specs.declared.StartTime.the-variants as start-time
 use Rattle.lines.specs.Lines.{Blanks}
@@ -43,6 +44,18 @@ pub data OpenedOr0 (line : List ℕ) (at : ℕ) : Type 0 where
 pub record Stands (t s : List ℕ) (at : ℕ) : Type 0 where
   pub rest : List ℕ
   pub bytes : drop at s ≡ t ++ rest
+
+-- The two figures of a version, with a point between.
+pub record Figures (a point b version : ℕ) : Type 0 where
+  pub is : Version version
+  pub first : a ≡ 48 + version / 10
+  pub between : point ≡ 46
+  pub second : b ≡ 48 + version % 10
+
+-- Their version, or 0 if they are those of none.
+pub data FiguresOr0 (a point b v : ℕ) : Type 0 where
+  figures : Figures a point b v → FiguresOr0 a point b v
+  no-figures : v ≡ 0 → ((u : ℕ) → Figures a point b u → ⊥) → FiguresOr0 a point b v
 
 -- The start that the digits of a start line give.
 pub record StartDigits (day fraction : List ℕ) (start : ℕ) : Type 0 where

@@ -1,15 +1,17 @@
 // Single lines of a trace: where one ends, and what a version line, a start line and a comment say.
+use base::wide;
 use clock::START_LIMIT;
 use clock::start_of;
 use digits::Number;
 use digits::read_decimal;
 use digits::read_padded;
+use row::is_version;
 ghost use Prim.Native.Nat.{_≤_};
 ghost use lib.ListN.{length};
 ghost use Rattle.base.specs.Decides.{Decides};
 ghost use Rattle.lines.specs.Lines.{Inside};
 ghost use Rattle.lines.specs.Answer.{EndsAt, VersionOr0, StartOr, Remarks};
-ghost use Rattle.lines.specs.Parts.{Blank, Digit, Ran, OpenedOr0, Stands, StartOfDigits};
+ghost use Rattle.lines.specs.Parts.{Blank, Digit, Ran, OpenedOr0, Stands, FiguresOr0, StartOfDigits};
 
 // Where a line ends: at its CR, which LF follows; or nowhere.
 pub enum Ending {
@@ -130,7 +132,30 @@ fn opened(line: &[u8]) -> usize
     blanks_end(line, 1)
 }
 
-// The version of a version line, 11 or 12, or 0.
+// The version of two figures with a point between, or 0.
+fn version_of(a: u8, point: u8, b: u8) -> u64
+    ensures { λ r. ⌜ FiguresOr0 a point b r ⌝ }
+{
+    if point != 46 {
+        return 0;
+    }
+    if a < 48 {
+        return 0;
+    }
+    if b < 48 {
+        return 0;
+    }
+    if 57 < b {
+        return 0;
+    }
+    let version = 10 * wide(a - 48) + wide(b - 48);
+    if is_version(version) {
+        return version;
+    }
+    0
+}
+
+// The version of a version line, or 0.
 pub fn version_line(line: &[u8]) -> u64
     ensures { λ r. ⌜ VersionOr0 (now (line .entry)) r ⌝ }
 {
@@ -138,23 +163,17 @@ pub fn version_line(line: &[u8]) -> u64
     if a == 0 {
         return 0;
     }
-    if !stands(line, a, b"$FILEVERSION=1.") {
+    if !stands(line, a, b"$FILEVERSION=") {
         return 0;
     }
-    let e = a + 15;
-    if e == line.len() {
+    let e = a + 13;
+    if line.len() - e < 3 {
         return 0;
     }
-    if blanks_end(line, e + 1) != line.len() {
+    if blanks_end(line, e + 3) != line.len() {
         return 0;
     }
-    if line[e] == 49 {
-        return 11;
-    }
-    if line[e] == 50 {
-        return 12;
-    }
-    0
+    version_of(line[e], line[e + 1], line[e + 2])
 }
 
 // The start that the day's digits and the fraction's give.

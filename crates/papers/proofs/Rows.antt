@@ -19,6 +19,7 @@ use Rattle.fields.proofs.Runs.{all-of}
 use Rattle.fields.proofs.Parts.{parted-one, first}
 use Rattle.record.specs.declared.Record.{Record}
 use Rattle.record.specs.Record.{WellFormed}
+use Rattle.row.specs.Versions.{is11}
 use Rattle.row.specs.Row
 use Rattle.row.specs.House.{joined}
 use Rattle.papers.specs.Text.{text}
@@ -59,7 +60,7 @@ from-rx (Row.error e i) = absurd (omega (arith, ap length e))
 
 -- The fields of a received frame, from the ID on.
 frame : {k : ℕ} {r : Record} {n o : List ℕ} {fs : List (List ℕ)} → Row.RowFields 11 k r (n ∷ o ∷ markRx ∷ fs) → Row.FrameId 0 r fs
-frame (Row.number a (Row.one b c m)) = from-rx m
+frame (Row.number a (Row.offset is11 b (Row.no-bus c m))) = from-rx m
 
 -- 0800 and 20000000 are no IDs.
 

@@ -11,8 +11,8 @@ use Rattle.lines.specs.Lines.{StartLine}
 use Rattle.record.specs.declared.Record.{Record}
 use Rattle.record.specs.Bytes.{bytes}
 use Rattle.record.specs.Record.{WellFormed, number, Packs}
+use Rattle.row.specs.Versions.{v11, v12}
 use Rattle.row.specs.Row.{Row}
-use Rattle.row.specs.Carries.{v11, v12}
 use Rattle.row.specs.House.{joined, numberText, offsetText, busTexts, markText, idText, byteTexts, dataTexts, rowTexts, rowText}
 use Rattle.row.proofs.Spelled.{row-spelled}
 use Rattle.papers.specs.Cases.{Holds, received, table, Every, none, more}

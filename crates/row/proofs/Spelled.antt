@@ -18,7 +18,7 @@ use Rattle.fields.proofs.Runs.{all-map}
 use Rattle.record.specs.declared.Record.{Record}
 use Rattle.record.specs.Record.{WellFormed}
 use Rattle.row.specs.Row
-use Rattle.row.specs.Carries.{Carries, v11, v12}
+use Rattle.row.specs.Versions.{is11, is12, Carries, v11, v12}
 use Rattle.row.specs.House.{numberText, markText, idText, byteTexts, dataTexts, rowTexts, rowText}
 use Rattle.row.proofs.Fields.{each-map}
 use Rattle.row.proofs.Formed.{error-small}
@@ -154,12 +154,12 @@ pub fields-spelled : {v k : ℕ} {r : Record} → WellFormed r → Carries r v �
 fields-spelled {k = k} {r = r} w (v11 b o) l h =
     rw row-texts-11
     (Row.number (number-spelled k l h)
-    (Row.one (offset-spelled 1 (r .offset) (r .offset % 1000 / 100) (w .offset) (omega arith) (omega arith) (offset-text 11 (r .offset)))
-    b (mark-spelled w (r .kind) refl)))
+    (Row.offset is11 (offset-spelled 1 (r .offset) (r .offset % 1000 / 100) (w .offset) (omega arith) (omega arith) (offset-text 11 (r .offset)))
+    (Row.no-bus b (mark-spelled w (r .kind) refl))))
 fields-spelled {k = k} {r = r} w (v12 a b) l h =
     rw row-texts-12
     (Row.number (number-spelled k l h)
-    (Row.three (offset-spelled 3 (r .offset) (r .offset % 1000 / 1) (w .offset) (omega arith) (omega arith) (offset-text 12 (r .offset)))
+    (Row.offset is12 (offset-spelled 3 (r .offset) (r .offset % 1000 / 1) (w .offset) (omega arith) (omega arith) (offset-text 12 (r .offset)))
     (Row.bus (record { spelled = decimal-spells (r .bus); low = a; high = b }) (mark-spelled w (r .kind) refl))))
 
 -- The house spelling of a row is a row of its record.

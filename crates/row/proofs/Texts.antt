@@ -19,8 +19,8 @@ use Rattle.fields.specs.Parted.{NoBlank, Parted, none, blank}
 use Rattle.fields.proofs.Parts.{first}
 use Rattle.record.specs.declared.Record.{Record}
 use Rattle.record.specs.Record.{WellFormed}
-use Rattle.row.specs.House.{joined, numberText, offsetText, busTexts, marks, markText, idText, byteTexts, dataTexts, fractionDigits, rowTexts}
-use Rattle.row.specs.Carries.{Carries, v11, v12}
+use Rattle.row.specs.House.{joined, numberText, offsetText, busTexts, marks, markText, idText, byteTexts, dataTexts, rowTexts}
+use Rattle.row.specs.Versions.{fractionDigits, Carries, v11, v12}
 use Rattle.row.proofs.Fields.{Each, no-more, then}
 
 -- Joined fields, case by case.

@@ -9,16 +9,13 @@ use Rattle.digits.specs.declared.Letters.the-variants.{Capital}
 use Rattle.digits.specs.House.{decimalText, paddedText, hexText}
 use Rattle.record.specs.declared.Record.{Record}
 use Rattle.fields.specs.Columns.{markRx, markTx, markWarng, markError, remoteText}
+use Rattle.row.specs.Versions.{fractionDigits, hasBus}
 
 -- Fields with one blank between two.
 unfoldable pub joined : List (List ℕ) → List ℕ
 joined [] = []
 joined (f ∷ []) = f
 joined (f ∷ g ∷ fs) = f ++ (32 ∷ joined (g ∷ fs))
-
--- The number of digits behind the offset's point: one in version 1.1, three in version 1.2.
-abbrev pub fractionDigits : ℕ → ℕ
-fractionDigits v = cond (eqb v 11) 1 3
 
 unfoldable pub numberText : ℕ → List ℕ
 numberText k = decimalText k ++ (41 ∷ [])
@@ -27,9 +24,9 @@ unfoldable pub offsetText : ℕ → ℕ → List ℕ
 offsetText v offset =
     decimalText (offset / 1000) ++ (46 ∷ paddedText (fractionDigits v) (offset % 1000 / 10 ^ (3 - fractionDigits v)))
 
--- A bus in version 1.2 only.
+-- A bus where the version has one.
 unfoldable pub busTexts : ℕ → ℕ → List (List ℕ)
-busTexts v bus = cond (eqb v 11) [] (decimalText bus ∷ [])
+busTexts v bus = cond (hasBus v) (decimalText bus ∷ []) []
 
 -- The mark of each kind: `Rx`, `Tx`, again for remote frames, `Warng`, `Error`.
 abbrev pub marks : List (List ℕ)

@@ -1,7 +1,8 @@
 -- The text of each column, by the tests that the writer makes.
 use Prim.Native.Nat.{ℕ, zero, suc, _+_, _*_, _/_, _%_, _^_, _≤_, _<_}
 use mathlib.Core.Path.{_≡_, refl, ap, _∙_}
-use mathlib.Core.Logic.{⊎-elim}
+use mathlib.Core.Logic.{_≢_, ⊎-elim}
+use mathlib.Core.Bool.{true, false}
 use mathlib.Core.List.{[], _∷_, _++_, append-nil}
 use native.Mathlib.Nat.{div-one}
 use native.Mathlib.Omega.{arith}
@@ -13,7 +14,9 @@ use Rattle.digits.specs.House.{decimalText, paddedText, hexText}
 use Rattle.digits.proofs.House.{length-fixed}
 use Rattle.record.specs.declared.Record.{Record}
 use Rattle.fields.specs.Columns.{markWarng, markError, remoteText}
-use Rattle.row.specs.House.{fractionDigits, numberText, offsetText, busTexts, markText, idText, byteTexts, dataTexts}
+use Rattle.row.specs.Versions.{fractionDigits, hasBus}
+use Rattle.row.specs.House.{numberText, offsetText, busTexts, markText, idText, byteTexts, dataTexts}
+use Rattle.row.proofs.EachVersion.{digits-known}
 use Rattle.row_writer.specs.Parts.{spaced}
 use Rattle.row_writer.proofs.Rows.{spaced-none, spaced-more}
 
@@ -24,31 +27,28 @@ number k = refl
 pub length-number : (k : ℕ) → length (numberText k) ≡ length (decimalText k) + 1
 length-number k = rw (number, length-append)
 
-pub offset-11 : (v n : ℕ) → v ≡ 11 → offsetText v n ≡ decimalText (n / 1000) ++ (46 ∷ paddedText 1 (n % 1000 / 100))
+pub offset-one : (v n : ℕ) → fractionDigits v ≡ 1 → offsetText v n ≡ decimalText (n / 1000) ++ (46 ∷ paddedText 1 (n % 1000 / 100))
 unfolding offsetText
-offset-11 v n e = rw (eq-eqb v 11 e)
+offset-one v n e = rw e
 
-pub offset-12 : (v n : ℕ) → (v ≡ 11 → ⊥) → offsetText v n ≡ decimalText (n / 1000) ++ (46 ∷ paddedText 3 (n % 1000))
+pub offset-three : (v n : ℕ) → fractionDigits v ≡ 3 → offsetText v n ≡ decimalText (n / 1000) ++ (46 ∷ paddedText 3 (n % 1000))
 unfolding offsetText
-offset-12 v n f = rw (ne-eqb v 11 f, div-one)
+offset-three v n e = rw (e, div-one)
 
 pub length-offset : (v n : ℕ) → length (offsetText v n) ≡ length (decimalText (n / 1000)) + suc (fractionDigits v)
 unfolding offsetText
 length-offset v n = rw (length-append, length-fixed)
 
-pub digits-11 : (v : ℕ) → v ≡ 11 → fractionDigits v ≡ 1
-digits-11 v e = rw (eq-eqb v 11 e)
+pub three-digits : (v : ℕ) → fractionDigits v ≢ 1 → fractionDigits v ≡ 3
+three-digits v f = ⊎-elim (λ e. absurd (f e)) (λ e. e) (digits-known v)
 
-pub digits-12 : (v : ℕ) → (v ≡ 11 → ⊥) → fractionDigits v ≡ 3
-digits-12 v f = rw (ne-eqb v 11 f)
-
-pub bus-11 : (v n : ℕ) → v ≡ 11 → spaced (busTexts v n) ≡ []
+pub with-bus : (v n : ℕ) → hasBus v ≡ true → spaced (busTexts v n) ≡ 32 ∷ decimalText n
 unfolding busTexts
-bus-11 v n e = rw (eq-eqb v 11 e, spaced-none)
+with-bus v n e = rw (e, spaced-more, spaced-none, append-nil (decimalText n))
 
-pub bus-12 : (v n : ℕ) → (v ≡ 11 → ⊥) → spaced (busTexts v n) ≡ 32 ∷ decimalText n
+pub without-bus : (v n : ℕ) → hasBus v ≡ false → spaced (busTexts v n) ≡ []
 unfolding busTexts
-bus-12 v n f = rw (ne-eqb v 11 f, spaced-more, spaced-none, append-nil (decimalText n))
+without-bus v n e = rw (e, spaced-none)
 
 pub frame-mark : (kind : ℕ) → kind < 4 → markText kind ≡ (82 + 2 * (kind % 2)) ∷ 120 ∷ []
 unfolding markText

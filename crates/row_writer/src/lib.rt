@@ -7,6 +7,8 @@ use digits::put_hex;
 use digits::put_kept;
 use digits::put_padded;
 use record::Record;
+use row::fraction_digits;
+use row::has_bus;
 ghost use mathlib.Core.Path.{_≡_};
 ghost use mathlib.Core.List.{[], _∷_};
 ghost use Prim.Native.Nat.{_+_, _*_, _/_, _^_, _≤_, _<_};
@@ -17,7 +19,7 @@ ghost use Rattle.digits.specs.declared.Letters.the-variants.{Capital};
 ghost use Rattle.digits.specs.House.{decimalText, hexText, PairsOf};
 ghost use Rattle.fields.specs.Columns.{lastNumber};
 ghost use Rattle.record.specs.Record.{WellFormed};
-ghost use Rattle.row.specs.Carries.{Carries};
+ghost use Rattle.row.specs.Versions.{Carries};
 ghost use Rattle.row.specs.House.{joined, numberText, offsetText, busTexts, markText, idText, byteTexts, dataTexts, rowText};
 ghost use Rattle.row_writer.specs.Parts.{spaced, headTexts, frameTexts};
 
@@ -47,7 +49,7 @@ fn number_length(k: u64) -> usize
     decimal_length(k) + 1
 }
 
-// Offset in milliseconds: one digit behind the point in version 1.1, three in version 1.2. The digits of its whole seconds are at hand.
+// Offset in milliseconds, with one digit behind the point or three. The digits of its whole seconds are at hand.
 fn put_offset(out: &mut [u8], at: usize, version: u64, offset: u64, seconds: &[u8]) -> usize
     requires { ⌜ at + length (32 ∷ offsetText version offset) ≤ length (now out) ⌝ }
     requires { ⌜ now seconds ≡ decimalText (offset / 1000 / 1000) ⌝ }
@@ -56,7 +58,7 @@ fn put_offset(out: &mut [u8], at: usize, version: u64, offset: u64, seconds: &[u
     let p = put_byte(out, at, 32);
     let q = put_kept(out, p, offset / 1000, offset / 1000 / 1000, seconds);
     let s = put_byte(out, q, 46);
-    if version == 11 {
+    if fraction_digits(version) == 1 {
         return put_padded(out, s, 1, offset % 1000 / 100);
     }
     put_padded(out, s, 3, offset % 1000)
@@ -65,19 +67,15 @@ fn put_offset(out: &mut [u8], at: usize, version: u64, offset: u64, seconds: &[u
 fn offset_length(version: u64, offset: u64) -> usize
     ensures { λ r. ⌜ (r ≡ length (32 ∷ offsetText version offset)) × (r ≤ 25) ⌝ }
 {
-    let whole = decimal_length(offset / 1000);
-    if version == 11 {
-        return whole + 3;
-    }
-    whole + 5
+    decimal_length(offset / 1000) + 2 + fraction_digits(version)
 }
 
-// The bus, in version 1.2 only.
+// The bus, where the version has one.
 fn put_bus(out: &mut [u8], at: usize, version: u64, bus: u64) -> usize
     requires { ⌜ at + length (spaced (busTexts version bus)) ≤ length (now out) ⌝ }
     ensures { λ r. ⌜ Wrote (now (out .entry)) (now (out .exit)) at r (spaced (busTexts version bus)) ⌝ }
 {
-    if version != 11 {
+    if has_bus(version) {
         let p = put_byte(out, at, 32);
         return put_decimal(out, p, bus);
     }
@@ -87,10 +85,10 @@ fn put_bus(out: &mut [u8], at: usize, version: u64, bus: u64) -> usize
 fn bus_length(version: u64, bus: u64) -> usize
     ensures { λ r. ⌜ (r ≡ length (spaced (busTexts version bus))) × (r ≤ 21) ⌝ }
 {
-    if version == 11 {
-        return 0;
+    if has_bus(version) {
+        return decimal_length(bus) + 1;
     }
-    decimal_length(bus) + 1
+    0
 }
 
 // `Rx`, `Tx`, `Warng` or `Error`. No branch tells `R`, byte 82, from `T`, byte 84: rows mix the two, and a branch that cannot be

@@ -1,7 +1,7 @@
 -- Wrong answers of `read`, `write` and `export`: each is refuted over its promise.
 use Prim.Native.Nat.{ℕ, suc, _≤_}
 use mathlib.Core.Path.{_≡_, refl, ap}
-use mathlib.Core.Logic.{_≢_, inr, ⊎-elim}
+use mathlib.Core.Logic.{_≢_, ⊎-elim}
 use mathlib.Core.List.{List, [], _∷_, _++_}
 use native.Mathlib.Omega.{arith}
 use lib.ListN.{length}
@@ -13,9 +13,8 @@ use Rattle.records.specs.StepBack.{backFrom, stepBack}
 use Rattle.records.proofs.Records.{holds-one}
 use Rattle.fields.specs.Runs.{empty}
 use Rattle.row.specs.Row.{Row}
-use Rattle.row.specs.Carries.{Carries, v12}
+use Rattle.row.specs.Versions.{is11, is12, versionText, Carries, v12}
 use Rattle.row.proofs.Plain.{row-some}
-use Rattle.lines.specs.Lines.{one}
 use Rattle.lines.proofs.Theorems.{version-line-text, version-line-inside, startLine, start-line-text, start-line-inside}
 use Rattle.trace.specs.Trace.{Trace, Spells, over, traceOf}
 use Rattle.trace.specs.Promise.{ReadPromise}
@@ -60,7 +59,7 @@ frame-carried offset = v12 (omega arith) (omega arith)
 
 falling-writable : Writable falling
 falling-writable = record {
-  version = inr refl;
+  version = is12;
   start = omega arith;
   few = omega arith;
   formed = more (frame-formed 3 (omega arith)) (more (frame-formed 2 (omega arith)) (more (frame-formed 1 (omega arith)) none));
@@ -78,7 +77,7 @@ last-step-back p =
 
 -- `;$FILEVERSION=1.1`, `;$STARTTIME=0.0` and an empty line: 7 at line 3, and not at line 4
 abbrev header : List ℕ
-header = endedLine (59 ∷ 36 ∷ 70 ∷ 73 ∷ 76 ∷ 69 ∷ 86 ∷ 69 ∷ 82 ∷ 83 ∷ 73 ∷ 79 ∷ 78 ∷ 61 ∷ 49 ∷ 46 ∷ 49 ∷ []) ++ endedLine startLine
+header = endedLine (59 ∷ versionText 11) ++ endedLine startLine
 
 abbrev pub emptyThird : List ℕ
 emptyThird = header ++ endedLine []
@@ -87,8 +86,8 @@ header-spells : Spells (traceOf 11 0 []) header
 header-spells = record {
   first = _;
   after-first = endedLine startLine;
-  one = record { first = record { inside = version-line-inside (one refl); ended = refl }; short = omega arith };
-  version = version-line-text (one refl);
+  one = record { first = record { inside = version-line-inside is11; ended = refl }; short = omega arith };
+  version = version-line-text is11;
   second = startLine;
   after-second = [];
   two = record { first = first-alone start-line-inside; short = omega arith };
@@ -106,7 +105,7 @@ fails-third = record {
   rest = endedLine [];
   stage = later (traceOf 11 0 []);
   whole = refl;
-  stands = at-later {n = 2} (omega arith) (lines-append (lines-alone (version-line-inside (one refl))) (lines-alone start-line-inside)) header-spells;
+  stands = at-later {n = 2} {t = traceOf 11 0 []} (omega arith) (lines-append (lines-alone (version-line-inside is11)) (lines-alone start-line-inside)) header-spells;
   stopped = no-row (record { first = first-alone empty; short = omega arith }) (λ c. omega (arith, ap length (c .bytes)))
       (λ d. omega (arith, ap length (d .bytes))) no-empty-row;
   at = refl;

@@ -1,7 +1,7 @@
 -- The traces that the wrong programs are tried with can be written, and are spelled by bytes.
 use Prim.Native.Nat.{ℕ, zero, suc, _≤_, _<_}
 use mathlib.Core.Path.{refl}
-use mathlib.Core.Logic.{inl, inr, ⊎-elim}
+use mathlib.Core.Logic.{⊎-elim}
 use mathlib.Core.List.{List, [], _∷_}
 use native.Mathlib.Omega.{arith}
 use lib.ListN.{replicate}
@@ -14,10 +14,10 @@ use Rattle.record.specs.Bytes.{bytes}
 use Rattle.record.specs.Record.{WellFormed, number}
 use Rattle.record.proofs.Bytes.{byte-below}
 use Rattle.records.specs.Records.{packed, none, more}
-use Rattle.row.specs.Carries.{Carries, v12}
+use Rattle.row.specs.Versions.{Version, is11, is12, Carries, v12}
 use Rattle.row.specs.House.{joined, numberText, offsetText, busTexts, markText, idText, byteTexts, dataTexts, rowTexts}
 use Rattle.trace.specs.Trace.{Trace, AreBytes, traceOf}
-use Rattle.trace.specs.House.{versionLineText, dayFraction, startLineText, rowsText, traceText, Version, Writable}
+use Rattle.trace.specs.House.{versionLineText, dayFraction, startLineText, rowsText, traceText, Writable}
 use Rattle.trace.proofs.Beginnings.{tested, are-bytes}
 use Rattle.tightness.specs.Programs.{Bytes}
 use Rattle.tightness.specs.Tight.{received, Tried, empty, later, older, two, copied}
@@ -48,7 +48,7 @@ frame-carried id = v12 (omega arith) (omega arith)
 
 two-writable : (id : ℕ) → id < 100 → Writable (traceOf 12 0 (received 1 ∷ received id ∷ []))
 two-writable id h = record {
-  version = inr refl;
+  version = is12;
   start = omega arith;
   few = omega arith;
   formed = more (frame-formed 1 (omega arith)) (more (frame-formed id h) none);
@@ -56,9 +56,9 @@ two-writable id h = record {
 }
 
 pub writable : {t : Trace} → Tried t → Writable t
-writable empty = none-writable (inr refl) (omega arith)
-writable later = none-writable (inr refl) (omega arith)
-writable older = none-writable (inl refl) (omega arith)
+writable empty = none-writable is12 (omega arith)
+writable later = none-writable is12 (omega arith)
+writable older = none-writable is11 (omega arith)
 writable two = two-writable 2 (omega arith)
 writable copied = two-writable 1 (omega arith)
 

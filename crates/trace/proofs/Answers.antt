@@ -8,6 +8,7 @@ use native.Mathlib.Omega.{arith}
 use lib.ListN.{length, drop, length-append}
 use Rattle.records.specs.Records.{packed}
 use Rattle.records.specs.StepBack.{stepBack}
+use Rattle.row.proofs.EachVersion.{version-low}
 use Rattle.row_reader.specs.Answer.{lineLimit}
 use Rattle.lines.specs.Lines.{FirstLine, DollarLine}
 use Rattle.trace.specs.declared.Outcome.{Outcome}
@@ -15,7 +16,7 @@ use Rattle.trace.specs.declared.Outcome.the-variants as outcome
 use Rattle.trace.specs.Trace.{sizeLimit, Trace, Line, Spells, Begins}
 use Rattle.trace.specs.Promise
 use Rattle.trace.specs.Promise.{readNumbers, Lines, none, line, Reached, Barred, Refused, ReadPromise, large, done, no-room, refused}
-use Rattle.lines.proofs.Theorems.{first-one, version-known}
+use Rattle.lines.proofs.Theorems.{first-one}
 use Rattle.trace.proofs.Apart.{no-line}
 use Rattle.trace.proofs.One.{one-trace}
 use Rattle.trace.proofs.Cuts.{endedLine, first-more, first-whole, lines-alone, lines-append}
@@ -132,8 +133,8 @@ stops (Promise.no-first r) = record { n = 0; rest = []; reached = r; stop = abse
 stops (Promise.no-version b) = bars b (of-header four)
 stops (Promise.no-second r) = record { n = 1; rest = []; reached = r; stop = absent five refl; at = refl }
 stops (Promise.no-start b) = bars b (of-header five)
-stops (Promise.dollar m b d) = bars b (six m d)
-stops (Promise.no-row m b d) = bars b (seven m d)
+stops (Promise.dollar b m d) = bars b (six m d)
+stops (Promise.no-row b m d) = bars b (seven m d)
 
 header-few : {n a : ℕ} → Header n a → n < 2
 header-few four = omega arith
@@ -282,13 +283,13 @@ refused-numbers (Promise.no-first r) = (omega arith, omega arith, omega arith)
 refused-numbers (Promise.no-version b) = (omega arith, omega arith, omega arith)
 refused-numbers (Promise.no-second r) = (omega arith, omega arith, omega arith)
 refused-numbers (Promise.no-start b) = (omega arith, omega arith, omega arith)
-refused-numbers (Promise.dollar m b d) = (omega arith, omega arith, omega arith)
-refused-numbers (Promise.no-row m b d) = (omega arith, omega arith, omega arith)
+refused-numbers (Promise.dollar b m d) = (omega arith, omega arith, omega arith)
+refused-numbers (Promise.no-row b m d) = (omega arith, omega arith, omega arith)
 
 -- No refusal has number 0: where that is given, the version is not 0.
 pub refusal : {text before x : List ℕ} {n p : ℕ} → ReadPromise text before (readNumbers (outcome.Refused n p)) x → 1 ≤ n
 refusal {n = n} (large h e q) = let z : n ≡ 1 = cc in omega arith
-refusal (done {t = t} h s r e q) = let z : 0 ≡ t .version = cc in ⊎-elim (λ v. omega arith) (λ v. omega arith) (version-known (s .version))
+refusal (done {t = t} h s r e q) = let z : 0 ≡ t .version = cc in omega (arith, version-low (s .version .is))
 refusal {n = n} (no-room h s r e q) = let z : n ≡ 8 = cc in omega arith
 refusal {n = n} (refused {n = m} h f e q) = let z : n ≡ m = cc in omega (arith, refused-numbers f .0)
 

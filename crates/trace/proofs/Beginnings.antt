@@ -10,7 +10,8 @@ use Rattle.fields.specs.Runs.{empty}
 use Rattle.fields.proofs.Runs.{all-append, all-of}
 use Rattle.record.specs.declared.Record.{Record}
 use Rattle.row_reader.specs.Answer.{lineLimit}
-use Rattle.lines.specs.Lines.{one, FirstLine, VersionLine, StartLine}
+use Rattle.row.specs.Versions.{is11, versionText}
+use Rattle.lines.specs.Lines.{FirstLine, VersionLine, StartLine}
 use Rattle.trace.specs.Trace.{sizeLimit, Trace, Line, Body, over, comment, row, Spells, AreBytes, Begins}
 use Rattle.trace.specs.Promise.{Lines, none, line}
 use Rattle.lines.proofs.Theorems.{first-one, version-line-text, version-line-inside, startLine, start-line-text, start-line-inside}
@@ -19,7 +20,7 @@ use Rattle.trace.proofs.Cuts.{endedLine, first-more, line-more, first-a
 
 -- `;$FILEVERSION=1.1`
 abbrev versionLine : List ℕ
-versionLine = 59 ∷ 36 ∷ 70 ∷ 73 ∷ 76 ∷ 69 ∷ 86 ∷ 69 ∷ 82 ∷ 83 ∷ 73 ∷ 79 ∷ 78 ∷ 61 ∷ 49 ∷ 46 ∷ 49 ∷ []
+versionLine = 59 ∷ versionText 11
 
 -- A version line and a start line are a trace without rows.
 pub header : {v s : ℕ} {first second rest text : List ℕ} → Line first rest text → VersionLine v first → Line second [] rest → StartLine s second
@@ -44,7 +45,7 @@ begins-none = record {
   rest = endedLine versionLine ++ endedLine startLine;
   bytes = are-bytes (endedLine versionLine ++ endedLine startLine) tt;
   trace = _;
-  spelled = header (record { first = record { inside = version-line-inside (one refl); ended = refl }; short = omega arith }) (version-line-text (one refl)) start-alone start-line-text;
+  spelled = header (record { first = record { inside = version-line-inside is11; ended = refl }; short = omega arith }) (version-line-text is11) start-alone start-line-text;
   size = omega arith;
 }
 

@@ -7,6 +7,7 @@ use native.Mathlib.Omega.{arith}
 use lib.ListN.{length}
 use Rattle.record.specs.declared.Record.{Record}
 use Rattle.fields.specs.Runs.{All}
+use Rattle.row.specs.Versions.{headLines}
 use Rattle.lines.specs.Lines.{Inside, FirstLine}
 use Rattle.trace.specs.Trace.{Trace, Line, Body, over, comment, row, Spells}
 use Rattle.trace.specs.Promise.{Lines, none, line}
@@ -113,7 +114,7 @@ spells-append {t} {rest = rest} a g =
       body = body-append (a .body) (rw n at g);
     }
 
--- A text that spells a trace, cut after two lines or more.
+-- A text that spells a trace, cut after its head lines or more.
 pub record CutTrace (t : Trace) (front rest : List ℕ) : Type 0 where
   pub before : List Record
   pub after : List Record
@@ -121,7 +122,7 @@ pub record CutTrace (t : Trace) (front rest : List ℕ) : Type 0 where
   pub first : Spells (withRecords t before) front
   pub second : Body (t .version) (length before + 1) after rest
 
-pub spells-cut : {n : ℕ} {t : Trace} {front : List ℕ} (rest : List ℕ) → 2 ≤ n → Lines n front → Spells t (front ++ rest)
+pub spells-cut : {n : ℕ} {t : Trace} {front : List ℕ} (rest : List ℕ) → headLines (t .version) ≤ n → Lines n front → Spells t (front ++ rest)
     → CutTrace t front rest
 spells-cut rest m none a = absurd (omega arith)
 spells-cut rest m (line f none) a = absurd (omega arith)

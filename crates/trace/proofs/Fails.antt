@@ -8,6 +8,7 @@ use lib.ListN.{length, length-append}
 use Rattle.record.specs.declared.Record.{Record}
 use Rattle.fields.specs.Runs.{All}
 use Rattle.row_reader.specs.Answer.{lineLimit}
+use Rattle.row.specs.Versions.{headLines}
 use Rattle.row.specs.Row.{Row}
 use Rattle.lines.specs.Lines.{Inside, FirstLine, VersionLine, StartLine, Comment, DollarLine}
 use Rattle.trace.specs.Trace.{sizeLimit, Trace, Line, Body, Spells, Begins}
@@ -21,7 +22,7 @@ use Rattle.trace.proofs.One.{one-trace}
 use Rattle.trace.proofs.Cuts.{endedLine, first-more, first-there, spells-cut}
 use Rattle.trace.proofs.Beginnings.{begins-none, begins-version, begins-spelled}
 
--- What the lines so far say: none stands there; one, of this version; two or more, which spell this trace.
+-- What the lines so far say: none stands there; one, of this version; the head lines or more, which spell this trace.
 pub data Stage : Type 0 where
   first : Stage
   second : ℕ → Stage
@@ -31,7 +32,7 @@ pub data Stage : Type 0 where
 pub data Stands : ℕ → List ℕ → Stage → Type 0 where
   at-first : Stands 0 [] first
   at-second : {v : ℕ} {line front : List ℕ} → Line line [] front → VersionLine v line → Stands 1 front (second v)
-  at-later : {n : ℕ} {t : Trace} {front : List ℕ} → 2 ≤ n → Lines n front → Spells t front → Stands n front (later t)
+  at-later : {n : ℕ} {t : Trace} {front : List ℕ} → headLines (t .version) ≤ n → Lines n front → Spells t front → Stands n front (later t)
 
 -- The line may stand next.
 pub data Next : Stage → List ℕ → Type 0 where
@@ -145,8 +146,8 @@ stopped-refused at-first e h no-first = Promise.no-first (stands-reached at-firs
 stopped-refused at-first e h (no-version l bars) = Promise.no-version (barred at-first e h l (not-version bars))
 stopped-refused (at-second f v) e h no-second = Promise.no-second (stands-reached (at-second f v) e h)
 stopped-refused (at-second f v) e h (no-start l bars) = Promise.no-start (barred (at-second f v) e h l (not-start bars))
-stopped-refused (at-later m ls a) e h (dollar l d) = Promise.dollar m (barred (at-later m ls a) e h l (not-dollar d)) d
-stopped-refused (at-later m ls a) e h (no-row l c d r) = Promise.no-row m (barred (at-later m ls a) e h l (not-row c r)) d
+stopped-refused (at-later m ls a) e h (dollar l d) = Promise.dollar (barred (at-later m ls a) e h l (not-dollar d)) m d
+stopped-refused (at-later m ls a) e h (no-row l c d r) = Promise.no-row (barred (at-later m ls a) e h l (not-row c r)) m d
 
 pub fails-refused : {text : List ℕ} {number place : ℕ} → length text ≤ sizeLimit → Fails text number place → Refused text number place
 fails-refused h f = rw (f .at) (stopped-refused (f .stands) (f .whole) h (f .stopped))

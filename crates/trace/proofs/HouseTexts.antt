@@ -12,6 +12,7 @@ use Rattle.fields.specs.Columns.{lastNumber}
 use Rattle.record.specs.declared.Record.{Record}
 use Rattle.record.specs.Record.{WellFormed}
 use Rattle.records.specs.Records.{Each, none, more}
+use Rattle.row.specs.Versions.{versionText}
 use Rattle.row.specs.House.{rowText}
 use Rattle.row.proofs.Spelled.{row-size}
 use Rattle.lines.specs.Lines.{startText}
@@ -20,8 +21,7 @@ use Rattle.trace.specs.House.{versionLineText, dayFraction, startLineTex
 
 -- Each text, as it is defined.
 
-pub version-line : (version : ℕ) → versionLineText version
-    ≡ (59 ∷ 36 ∷ 70 ∷ 73 ∷ 76 ∷ 69 ∷ 86 ∷ 69 ∷ 82 ∷ 83 ∷ 73 ∷ 79 ∷ 78 ∷ 61 ∷ 49 ∷ 46 ∷ []) ++ ((48 + version % 10) ∷ [])
+pub version-line : (version : ℕ) → versionLineText version ≡ 59 ∷ versionText version
 unfolding versionLineText
 version-line version = refl
 

@@ -7,6 +7,7 @@ use native.Mathlib.Decide.{ℕ-discrete}
 use lib.ListN.{length, take, drop, length-append, length-drop, length-take, take-append-drop}
 use lib.Seq.{take-add, take-at, take-all, length-take-le}
 use Rattle.record.specs.declared.Record.{Record}
+use Rattle.row.specs.Versions.{headLines}
 use Rattle.row.specs.Row.{Row}
 use Rattle.lines.specs.Lines.{Comment}
 use Rattle.trace.specs.declared.Judged.the-variants as judged
@@ -24,7 +25,7 @@ pub record Judging (text : List ℕ) (version start at place rows : ℕ) : Type 
   pub within : at ≤ length text
   pub few : rows ≤ at
   pub near : place ≤ at
-  pub two : 2 ≤ place
+  pub head : headLines version ≤ place
   pub lines : Lines place (take at text)
   pub records : List Record
   pub spelled : Spells (record { version = version; start = start; records = records }) (take at text)
@@ -35,12 +36,12 @@ lines-near : {n : ℕ} {s : List ℕ} → Lines n s → n ≤ length s
 lines-near Promise.none = omega arith
 lines-near (Promise.line {l = l} {rest = rest} f ls) = omega (arith, ap length (f .ended) ∙ length-append l (13 ∷ 10 ∷ rest), lines-near ls)
 
-pub judging : {text : List ℕ} {version start at : ℕ} → Headed text at version start → Judging text version start at 2 0
+pub judging : {text : List ℕ} {version start at : ℕ} → Headed text at version start → Judging text version start at (headLines version) 0
 judging {text} {at = at} h = record {
   within = h .within;
   few = omega arith;
   near = let n = lines-near (h .lines) in omega (arith, length-take-le at text (h .within));
-  two = omega arith;
+  head = omega arith;
   lines = h .lines;
   records = [];
   spelled = h .spelled;
@@ -79,12 +80,12 @@ module _ {text : List ℕ} {version start at place rows : ℕ} (j : Judging text
       let a = t .later in
       let n = j .few in
       let m = j .near in
-      let k = j .two in
+      let k = j .head in
       record {
         within = t .within;
         few = omega arith;
         near = omega arith;
-        two = omega arith;
+        head = omega arith;
         lines = x .0;
         records = j .records;
         spelled = rw append-nil at (x .1);
@@ -99,12 +100,12 @@ module _ {text : List ℕ} {version start at place rows : ℕ} (j : Judging text
       let a = t .later in
       let n = j .few in
       let m = j .near in
-      let k = j .two in
+      let k = j .head in
       record {
         within = t .within;
         few = omega arith;
         near = omega arith;
-        two = omega arith;
+        head = omega arith;
         lines = x .0;
         records = j .records ++ (r ∷ []);
         spelled = x .1;
@@ -118,7 +119,7 @@ module _ {text : List ℕ} {version start at place rows : ℕ} (j : Judging text
   stops h r (Passes.other l c d) = Fails.no-row {t = so-far} l c d (λ q w. r q _ _ l (rw (← (j .counted)) at w))
 
   pub refused-line : {n : ℕ} → length text ≤ sizeLimit → at < length text → NoRow text at version (rows + 1) → Bars (drop at text) n → Refused text n (place + 1)
-  refused-line s h r b = stopped-refused (at-later (j .two) (j .lines) (j .spelled)) (sym (take-append-drop at text)) s (stops h r b)
+  refused-line s h r b = stopped-refused (at-later (j .head) (j .lines) (j .spelled)) (sym (take-append-drop at text)) s (stops h r b)
 
   pub finished : length text ≤ at → Judges text version start (judged.Good rows)
   finished h = (j .records, rw (take-all at text h) at (j .spelled), j .counted)

@@ -1,7 +1,6 @@
 -- The house spelling is there: each trace that can be written is spelled by it, and each that was read can be written.
 use Prim.Native.Nat.{ℕ, _+_, _*_, _/_, _%_, _≤_}
 use mathlib.Core.Path.{_≡_, refl, ap, sym, _∙_}
-use mathlib.Core.Logic.{inl, inr}
 use mathlib.Core.List.{List, [], _∷_, _++_, append-nil}
 use native.Mathlib.Omega.{arith}
 use lib.ListN.{length, length-append}
@@ -21,19 +20,12 @@ use Rattle.row.specs.House.{rowText}
 use Rattle.row.proofs.Spelled.{row-spelled, row-size}
 use Rattle.row.proofs.Formed.{row-formed, row-carried, row-number}
 use Rattle.row.proofs.Plain.{row-plain}
-use Rattle.lines.specs.Lines.{Inside, VersionText, one, two, startText, StartLine}
-use Rattle.lines.proofs.Lines.{versionText}
-use Rattle.lines.proofs.Theorems.{version-line-text, version-line-inside, version-known, start-line-inside}
+use Rattle.lines.specs.Lines.{Inside, startText, StartLine}
+use Rattle.lines.proofs.Theorems.{version-line-text, version-line-inside, start-line-inside}
 use Rattle.trace.specs.Trace.{sizeLimit, Trace, Body, over, comment, row, Spells}
-use Rattle.trace.specs.House.{versionLineText, dayFraction, startLineText, rowsText, traceText, Version, Carried, Writable}
+use Rattle.trace.specs.House.{versionLineText, dayFraction, startLineText, rowsText, traceText, Carried, Writable}
 use Rattle.trace.proofs.HouseTexts.{version-line, start-line, day-fraction, rows-none, rows-more, trace-text, version-line-length, start-line-size, rows-size}
 use Rattle.trace.proofs.One.{one-trace}
-
--- Line 1.
-
-version-spelled : (v : ℕ) → Version v → VersionText v (versionText ++ ((48 + v % 10) ∷ []))
-version-spelled v (inl e) = rw e (one refl)
-version-spelled v (inr e) = rw e (two refl)
 
 -- Line 2.
 
@@ -97,7 +89,7 @@ rows-spelled {v} k (more {r = r} {rs = rs} f fs) (more c cs) l h =
 -- The house spelling of a trace that can be written is spelled by that trace.
 pub there : {t : Trace} → Writable t → Spells t (traceText t)
 there {t} w =
-    let v = version-spelled (t .version) (w .version) in
+    let v = w .version in
     record {
       first = versionLineText (t .version);
       after-first = startLineText (t .start) ++ (13 ∷ 10 ∷ rowsText (t .version) 1 (t .records));
@@ -145,7 +137,7 @@ numbered (row m w h) l = let n = row-number w in omega (arith, numbered h (omega
 -- Any trace that was read can be written.
 pub read-writable : {t : Trace} {text : List ℕ} → Spells t text → Writable t
 read-writable a = record {
-  version = version-known (a .version);
+  version = a .version .is;
   start = a .start .limit;
   few = omega (arith, numbered (a .body) (omega arith));
   formed = formed (a .body);

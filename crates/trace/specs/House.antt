@@ -1,7 +1,5 @@
 -- The house spelling of a whole trace, and which traces have one.
 use Prim.Native.Nat.{ℕ, _+_, _*_, _/_, _%_, _^_, _≤_}
-use mathlib.Core.Path.{_≡_}
-use mathlib.Core.Logic.{_⊎_}
 use mathlib.Core.List.{List, [], _∷_, _++_}
 use lib.ListN.{length}
 use Rattle.digits.specs.House.{decimalText, paddedText}
@@ -10,15 +8,14 @@ use Rattle.fields.specs.Columns.{lastNumber}
 use Rattle.record.specs.declared.Record.{Record}
 use Rattle.record.specs.Record.{WellFormed}
 use Rattle.records.specs.Records.{Each}
-use Rattle.row.specs.Carries.{Carries}
+use Rattle.row.specs.Versions.{Version, versionText, Carries}
 use Rattle.row.specs.House.{rowText}
 use Rattle.lines.specs.Lines.{startText}
 use Rattle.trace.specs.Trace.{Trace}
 
--- `;$FILEVERSION=1.` and the version's last digit, without blanks: line 1.
+-- `;` and the version's text, without blanks: line 1.
 unfoldable pub versionLineText : ℕ → List ℕ
-versionLineText version =
-    59 ∷ 36 ∷ 70 ∷ 73 ∷ 76 ∷ 69 ∷ 86 ∷ 69 ∷ 82 ∷ 83 ∷ 73 ∷ 79 ∷ 78 ∷ 61 ∷ 49 ∷ 46 ∷ (48 + version % 10) ∷ []
+versionLineText version = 59 ∷ versionText version
 
 -- The fraction of the day, in ten digits: the day's milliseconds times 10,000,000,000 over 86,400,000, to nearest, halves up.
 unfoldable pub dayFraction : ℕ → ℕ
@@ -37,10 +34,6 @@ rowsText version k (r ∷ rs) = rowText version k r ++ (13 ∷ 10 ∷ rowsText v
 unfoldable pub traceText : Trace → List ℕ
 traceText t =
     versionLineText (t .version) ++ (13 ∷ 10 ∷ (startLineText (t .start) ++ (13 ∷ 10 ∷ rowsText (t .version) 1 (t .records))))
-
--- 1.1 or 1.2.
-abbrev pub Version : ℕ → Type 0
-Version version = (version ≡ 11) ⊎ (version ≡ 12)
 
 -- Every record is one that the version can carry.
 abbrev pub Carried : ℕ → List Record → Type 0

@@ -8,6 +8,7 @@ use Rattle.record.specs.Promise.{fieldsOf}
 use Rattle.records.specs.Records.{packed}
 use Rattle.records.specs.StepBack.{stepBack}
 use Rattle.row_reader.specs.Answer.{lineLimit}
+use Rattle.row.specs.Versions.{headLines}
 use Rattle.row.specs.Row.{Row}
 use Rattle.lines.specs.Lines.{FirstLine, VersionLine, Comment, DollarLine}
 use Rattle.trace.specs.declared.Other.{Other}
@@ -71,10 +72,10 @@ pub record Versioned (text : List ℕ) (at version : ℕ) : Type 0 where
   pub there : There text 0 at line
   pub is : VersionLine version line
 
--- The first two lines end at `at`, and give this version and start.
+-- The head lines end at `at`, and give this version and start.
 pub record Headed (text : List ℕ) (at version start : ℕ) : Type 0 where
   pub within : at ≤ length text
-  pub lines : Lines 2 (take at text)
+  pub lines : Lines (headLines version) (take at text)
   pub spelled : Spells (traceOf version start []) (take at text)
 
 abbrev pub Heads : List ℕ → Heading → Type 0

@@ -6,6 +6,7 @@ use lines::StartTime;
 use record::of_fields;
 use record::put_record;
 use records::back_after;
+use row::head_lines;
 use row_reader::no_window;
 use row_reader::row_in;
 use row_reader::window;
@@ -201,7 +202,7 @@ fn judge(text: &[u8], from: usize, version: u64, start: u64) -> Judged
     ensures { λ j. ⌜ Judges (now (text .entry)) version start j ⌝ }
 {
     let mut at = from;
-    let mut place: u64 = 2;
+    let mut place = head_lines(version);
     let mut rows: u64 = 0;
     let mut w = no_window();
     let mut base = from;

@@ -11,7 +11,7 @@ use Rattle.record.specs.Record.{Packs}
 use Rattle.records.specs.Records.{none}
 use Rattle.records.proofs.Lists.{each-snoc}
 use Rattle.records.proofs.Through.{Through, through, through-more, all-through}
-use Rattle.row.specs.Carries.{Carries}
+use Rattle.row.specs.Versions.{Carries}
 use Rattle.row.specs.House.{rowText}
 use Rattle.trace.specs.House.{rowsText, Carried}
 use Rattle.trace.proofs.HouseTexts.{rows-none}

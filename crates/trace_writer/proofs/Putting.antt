@@ -11,7 +11,7 @@ use Rattle.record.specs.declared.Record.{Record}
 use Rattle.record.specs.Record.{WellFormed, Packs}
 use Rattle.records.proofs.Lists.{each-head, each-tail}
 use Rattle.records.proofs.Ahead.{Ahead, ahead, later, after-next, ahead-more, all-behind}
-use Rattle.row.specs.Carries.{Carries}
+use Rattle.row.specs.Versions.{Carries}
 use Rattle.row.specs.House.{rowText}
 use Rattle.trace.specs.House.{rowsText, Carried}
 use Rattle.trace.proofs.HouseTexts.{rows-none, rows-more}

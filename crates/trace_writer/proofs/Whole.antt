@@ -10,8 +10,9 @@ use Rattle.clock.specs.Start.{startLimit}
 use Rattle.record.specs.declared.Record.{Record}
 use Rattle.records.specs.Records.{Whole, Holds}
 use Rattle.records.proofs.Packing.{packed-length}
+use Rattle.row.specs.Versions.{Version}
 use Rattle.trace.specs.Trace.{traceOf}
-use Rattle.trace.specs.House.{versionLineText, startLineText, rowsText, traceText, Version, Carried, Writable}
+use Rattle.trace.specs.House.{versionLineText, startLineText, rowsText, traceText, Carried, Writable}
 use Rattle.trace.proofs.HouseTexts.{trace-text, rows-size}
 use Rattle.trace_writer.specs.Promise.{Stopped, malformed, misfit}
 use Rattle.trace_writer.specs.Passes.{ended, headText, Unfit, RowsPut}

@@ -8,7 +8,7 @@ use Rattle.base.specs.Wrote.{Wrote}
 use Rattle.fields.specs.Columns.{lastNumber}
 use Rattle.record.specs.declared.Record.{Record}
 use Rattle.records.specs.Records.{Holds, FirstMalformed}
-use Rattle.row.specs.Carries.{Carries}
+use Rattle.row.specs.Versions.{Carries}
 use Rattle.row.specs.House.{rowText}
 use Rattle.trace.specs.House.{versionLineText, startLineText, rowsText, Carried}
 use Rattle.trace_writer.specs.declared.Size.{Size}

@@ -14,20 +14,21 @@ use record::packed_at;
 use records::Entry;
 use records::record_at;
 use records::whole;
+use row::carries;
+use row::is_version;
 use row_writer::put_row;
 use row_writer::row_length;
 ghost use mathlib.Core.Path.{_≡_};
 ghost use mathlib.Core.List.{[], _∷_};
 ghost use Prim.Native.Nat.{_+_, _≤_};
 ghost use lib.ListN.{length};
-ghost use Rattle.base.specs.Decides.{Decides};
 ghost use Rattle.base.specs.Wrote.{Wrote};
 ghost use Rattle.clock.specs.Start.{startLimit};
 ghost use Rattle.fields.specs.Columns.{lastNumber};
 ghost use Rattle.record.specs.Record.{WellFormed};
 ghost use Rattle.records.specs.Records.{Whole};
-ghost use Rattle.row.specs.Carries.{Carries};
-ghost use Rattle.trace.specs.House.{Version, versionLineText, startLineText};
+ghost use Rattle.row.specs.Versions.{Version};
+ghost use Rattle.trace.specs.House.{versionLineText, startLineText};
 ghost use Rattle.trace_writer.specs.Promise.{writeNumbers, WritePromise};
 ghost use Rattle.trace_writer.specs.Passes.{ended, headText, RowBytes, MisfitAfter, Measures, Fits, RowsPut};
 
@@ -54,12 +55,14 @@ fn put_end(out: &mut [u8], at: usize) -> usize
 
 // Line 1.
 fn put_version_line(out: &mut [u8], at: usize, version: u64) -> usize
-    requires { ⌜ at + length (ended (versionLineText version)) ≤ length (now out) ⌝ }
+    requires { ⌜ Version version × (at + length (ended (versionLineText version)) ≤ length (now out)) ⌝ }
     ensures { λ r. ⌜ Wrote (now (out .entry)) (now (out .exit)) at r (ended (versionLineText version)) ⌝ }
 {
-    let p = put_text(out, at, b";$FILEVERSION=1.");
-    let q = put_decimal(out, p, version % 10);
-    put_end(out, q)
+    let p = put_text(out, at, b";$FILEVERSION=");
+    let q = put_decimal(out, p, version / 10);
+    let s = put_byte(out, q, 46);
+    let t = put_decimal(out, s, version % 10);
+    put_end(out, t)
 }
 
 // Line 2.
@@ -74,36 +77,15 @@ fn put_start_line(out: &mut [u8], at: usize, start: u64) -> usize
     put_end(out, t)
 }
 
-// The bytes of lines 1 and 2 beside the digits of the day: `;$FILEVERSION=1.`, a digit, CR LF; `;$STARTTIME=`, the point, ten digits, CR LF.
-const HEAD: usize = 16 + 1 + 2 + 12 + 1 + 10 + 2;
+// The bytes of lines 1 and 2 beside the digits of the day: `;$FILEVERSION=`, two figures and a point, CR LF; `;$STARTTIME=`, the point, ten
+// digits, CR LF.
+const HEAD: usize = 14 + 3 + 2 + 12 + 1 + 10 + 2;
 
 // How many bytes lines 1 and 2 are.
 fn head_length(version: u64, start: u64) -> usize
     ensures { λ r. ⌜ (r ≡ length (headText version start)) × (r ≤ 64) ⌝ }
 {
     decimal_length(start / 86400000) + HEAD
-}
-
-// Whether a version can carry a record.
-fn carries(r: Record, version: u64) -> bool
-    ensures { λ b. ⌜ Decides (Carries r version) b ⌝ }
-{
-    if version == 11 {
-        if r.bus != 0 {
-            return false;
-        }
-        return r.offset % 100 == 0;
-    }
-    if version != 12 {
-        return false;
-    }
-    if r.bus == 0 {
-        return false;
-    }
-    if 16 < r.bus {
-        return false;
-    }
-    true
 }
 
 // How many bytes a row with its end is, or 0 if the version can't carry it.
@@ -224,13 +206,11 @@ pub fn write(version: u64, start: u64, records: &[u8], out: &mut [u8]) -> Writte
             place: 0,
         };
     }
-    if version != 11 {
-        if version != 12 {
-            return Written::Refused {
-                number: 21,
-                place: 0,
-            };
-        }
+    if !is_version(version) {
+        return Written::Refused {
+            number: 21,
+            place: 0,
+        };
     }
     if START_LIMIT < start {
         return Written::Refused {

@@ -33,8 +33,9 @@ put-trace-spec =
     no-room w (g .1 .bytes) (omega (arith, g .3, trace-length (a .version) (a .start) (g .0), c .before .head-length .ensures .0, c .if1 .taken)) refl refl)
     (λ c κs.
     let g = rw (c .before .before .before .before .m .given .1) at (c .before .before .before .before .before .before .measure .ensures) in
-    let a = c .before .before .before .before .before .before .before .before .before .args in
-    omega (arith, length-append (ended (versionLineText (a .version))) (ended (startLineText (a .start))), c .before .before .head-length .ensures .0, c .before .if1 .left))
+    let s = c .before .before .before .before .before .before .before .before .before in
+    let a = s .args in
+    (s .pre .1, omega (arith, length-append (ended (versionLineText (a .version))) (ended (startLineText (a .start))), c .before .before .head-length .ensures .0, c .before .if1 .left)))
     (λ c κs.
     let g = rw (c .before .before .before .before .before .before .before .before .m .given .1) at (c .before .before .before .before .before .before .before .before .before .before .measure .ensures) in
     let a = c .before .before .before .before .before .before .before .before .before .before .before .before .before .args in

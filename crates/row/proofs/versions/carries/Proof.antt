@@ -1,11 +1,11 @@
--- `trace_writer::carries` decides.
+-- `row::versions::carries` decides.
 use Prim.Native.Nat.{_%_}
 use native.Mathlib.Omega.{arith}
 use lib.Dec.{eqb}
 use Rattle.base.proofs.Tests.{same-test, equal}
-use Rattle.trace_writer.proofs.Carrying.{carried-11, carries-11, carried-12, carries-12}
-use Rattle.trace_writer.proofs.carries.Statement.{statement}
-use Rattle.trace_writer.proofs.carries.Tie as tie
+use Rattle.row.proofs.EachVersion.{carried-11, carries-11, carried-12, carries-12}
+use Rattle.row.proofs.versions.carries.Statement.{statement}
+use Rattle.row.proofs.versions.carries.Tie as tie
 
 pub carries-spec : {M : Type 1} → statement M
 carries-spec =
