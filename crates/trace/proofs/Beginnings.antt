@@ -12,7 +12,7 @@ use Rattle.record.specs.declared.Record.{Record}
 use Rattle.row_reader.specs.Answer.{lineLimit}
 use Rattle.row.specs.Versions.{is11, versionText}
 use Rattle.lines.specs.Lines.{FirstLine, VersionLine, StartLine}
-use Rattle.trace.specs.Trace.{sizeLimit, Trace, Line, Body, over, comment, row, Spells, AreBytes, Begins}
+use Rattle.trace.specs.Trace.{sizeLimit, Trace, Line, Body, over, comment, row, SpellsFrom, Spells, AreBytes, Begins}
 use Rattle.trace.specs.Promise.{Lines, none, line}
 use Rattle.lines.proofs.Theorems.{first-one, version-line-text, version-line-inside, startLine, start-line-text, start-line-inside}
 use Rattle.trace.proofs.Apart.{no-line}
@@ -23,8 +23,8 @@ abbrev versionLine : List ℕ
 versionLine = 59 ∷ versionText 11
 
 -- A version line and a start line are a trace without rows.
-pub header : {v s : ℕ} {first second rest text : List ℕ} → Line first rest text → VersionLine v first → Line second [] rest → StartLine s second
-    → Spells (record { version = v; start = s; records = [] }) text
+pub header : {number v s : ℕ} {first second rest text : List ℕ} → Line first rest text → VersionLine v first → Line second [] rest → StartLine s second
+    → SpellsFrom number (record { version = v; start = s; records = [] }) text
 header l w m x =
     record { first = _; after-first = _; one = l; version = w; second = _; after-second = []; two = m; start = x; body = over }
 
@@ -94,7 +94,7 @@ body-shorts over = no-more
 body-shorts (comment l c h) = one-more l (body-shorts h)
 body-shorts (row l w h) = one-more l (body-shorts h)
 
-pub spells-shorts : {t : Trace} {text : List ℕ} → Spells t text → Shorts text
+pub spells-shorts : {number : ℕ} {t : Trace} {text : List ℕ} → SpellsFrom number t text → Shorts text
 spells-shorts a = one-more (a .one) (one-more (a .two) (body-shorts (a .body)))
 
 -- So is every line behind some lines.

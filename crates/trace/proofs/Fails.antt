@@ -39,7 +39,7 @@ pub data Next : Stage → List ℕ → Type 0 where
   version : {v : ℕ} {line : List ℕ} → VersionLine v line → Next first line
   start : {v s : ℕ} {line : List ℕ} → StartLine s line → Next (second v) line
   comment : {t : Trace} {line : List ℕ} → Comment line → Next (later t) line
-  row : {t : Trace} {r : Record} {line : List ℕ} → Row (t .version) (length (t .records) + 1) r line → Next (later t) line
+  row : {t : Trace} {r : Record} {line : List ℕ} → Row (t .version) (1 + length (t .records)) r line → Next (later t) line
 
 -- What is left stops the text, with this number.
 pub data Stopped : Stage → List ℕ → ℕ → Type 0 where
@@ -51,7 +51,7 @@ pub data Stopped : Stage → List ℕ → ℕ → Type 0 where
   no-start : {v : ℕ} {line after rest : List ℕ} → Line line after rest → ((s : ℕ) → StartLine s line → ⊥) → Stopped (second v) rest 5
   dollar : {t : Trace} {line after rest : List ℕ} → Line line after rest → DollarLine line → Stopped (later t) rest 6
   no-row : {t : Trace} {line after rest : List ℕ} → Line line after rest → (Comment line → ⊥) → (DollarLine line → ⊥)
-      → ((r : Record) → Row (t .version) (length (t .records) + 1) r line → ⊥) → Stopped (later t) rest 7
+      → ((r : Record) → Row (t .version) (1 + length (t .records)) r line → ⊥) → Stopped (later t) rest 7
 
 -- The first line that is wrong has this place, and the number says how.
 pub record Fails (text : List ℕ) (number place : ℕ) : Type 0 where
@@ -87,7 +87,7 @@ stands-reached {front = front} {rest = rest} s e h = record {
 
 -- The first line of the rows to come.
 body-next : {t : Trace} {rs : List Record} {line after rest : List ℕ} → FirstLine line after rest
-    → Body (t .version) (length (t .records) + 1) rs rest → Next (later t) line
+    → Body (t .version) (1 + length (t .records)) rs rest → Next (later t) line
 body-next f body-over = absurd (no-line f)
 body-next f (body-comment l c h) = comment (rw (first-one (l .first) f .0) at c)
 body-next f (body-row l w h) = row (rw (first-one (l .first) f .0) at w)
@@ -102,7 +102,7 @@ stands-next {rest = rest} (at-second l w) f a =
 stands-next {rest = rest} (at-later {t = t} m ls b) f a =
     let c = spells-cut rest m ls a in
     let e = one-trace (c .first) b in
-    body-next f (subst (λ (x : Trace). Body (x .version) (length (x .records) + 1) (c .after) rest) e (c .second))
+    body-next f (subst (λ (x : Trace). Body (x .version) (1 + length (x .records)) (c .after) rest) e (c .second))
 
 -- So no acceptable text begins with them and a line that may not.
 pub stands-never : {n : ℕ} {front line : List ℕ} {g : Stage} → Stands n front g → All Inside line → (Next g line → ⊥)
@@ -132,7 +132,7 @@ not-dollar : {t : Trace} {line : List ℕ} → DollarLine line → Next (later t
 not-dollar d (comment c) = not-both c d
 not-dollar d (row w) = row-no-dollar w d
 
-not-row : {t : Trace} {line : List ℕ} → (Comment line → ⊥) → ((r : Record) → Row (t .version) (length (t .records) + 1) r line → ⊥)
+not-row : {t : Trace} {line : List ℕ} → (Comment line → ⊥) → ((r : Record) → Row (t .version) (1 + length (t .records)) r line → ⊥)
     → Next (later t) line → ⊥
 not-row c r (comment x) = c x
 not-row c r (row w) = r _ w

@@ -22,7 +22,7 @@ use Rattle.row.proofs.Formed.{row-formed, row-carried, row-number}
 use Rattle.row.proofs.Plain.{row-plain}
 use Rattle.lines.specs.Lines.{Inside, startText, StartLine}
 use Rattle.lines.proofs.Theorems.{version-line-text, version-line-inside, start-line-inside}
-use Rattle.trace.specs.Trace.{sizeLimit, Trace, Body, over, comment, row, Spells}
+use Rattle.trace.specs.Trace.{sizeLimit, Trace, Body, over, comment, row, SpellsFrom, Spells}
 use Rattle.trace.specs.House.{versionLineText, dayFraction, startLineText, rowsText, traceText, Carried, Writable}
 use Rattle.trace.proofs.HouseTexts.{version-line, start-line, day-fraction, rows-none, rows-more, trace-text, version-line-length, start-line-size, rows-size}
 use Rattle.trace.proofs.One.{one-trace}
@@ -134,15 +134,19 @@ numbered over l = omega arith
 numbered (comment m c h) l = numbered h l
 numbered (row m w h) l = let n = row-number w in omega (arith, numbered h (omega arith))
 
--- Any trace that was read can be written.
-pub read-writable : {t : Trace} {text : List ℕ} → Spells t text → Writable t
-read-writable a = record {
+-- Whatever number its first row has, a trace that is spelled can be written.
+spelled-writable : {number : ℕ} {t : Trace} {text : List ℕ} → 1 ≤ number → number ≤ lastNumber + 1 → SpellsFrom number t text → Writable t
+spelled-writable l h a = record {
   version = a .version .is;
   start = a .start .limit;
-  few = omega (arith, numbered (a .body) (omega arith));
+  few = omega (arith, numbered (a .body) h);
   formed = formed (a .body);
   carried = carried (a .body);
 }
+
+-- Any trace that was read can be written.
+pub read-writable : {t : Trace} {text : List ℕ} → Spells t text → Writable t
+read-writable a = spelled-writable (omega arith) (omega arith) a
 
 -- Two traces with one house spelling are one trace.
 pub one-house : {t u : Trace} → Writable t → Writable u → traceText t ≡ traceText u → t ≡ u

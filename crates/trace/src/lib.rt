@@ -199,7 +199,7 @@ fn other_at(text: &[u8], at: usize) -> Other
 // The first pass, from line 3 on: every line is judged, and the rows are counted.
 fn judge(text: &[u8], from: usize, version: u64, start: u64) -> Judged
     requires { ⌜ Headed (now text) from version start × (length (now text) ≤ sizeLimit) ⌝ }
-    ensures { λ j. ⌜ Judges (now (text .entry)) version start j ⌝ }
+    ensures { λ j. ⌜ Judges 1 (now (text .entry)) version start j ⌝ }
 {
     let mut at = from;
     let mut place = head_lines(version);
@@ -233,8 +233,8 @@ fn judge(text: &[u8], from: usize, version: u64, start: u64) -> Judged
 // The second pass: the records of the rows are packed into the output, which has room for them, and the first step back is found. No line is
 // refused any more: what starts with `;` is a comment, and all else a row.
 fn fill(text: &[u8], from: usize, version: u64, start: u64, out: &mut [u8]) -> u64
-    requires { ⌜ Headed (now text) from version start × Fits (now text) (now out) version start ⌝ }
-    ensures { λ b. ⌜ Filled (now (text .entry)) (now (out .entry)) (now (out .exit)) b ⌝ }
+    requires { ⌜ Headed (now text) from version start × Fits 1 (now text) (now out) version start ⌝ }
+    ensures { λ b. ⌜ Filled 1 (now (text .entry)) (now (out .entry)) (now (out .exit)) b ⌝ }
 {
     let mut at = from;
     let mut done: u64 = 0;

@@ -47,7 +47,7 @@ unfit-stopped w v l (Passes.misfit h f) = misfit w v l h f
 
 -- Line 1, line 2 and the rows are the house spelling.
 pub all-written : {p q : ℕ} {s old one two new : List ℕ} (version start : ℕ) (rs : List Record) → Holds rs s → Wrote old one 0 p (ended (versionLineText version))
-    → Wrote one two p q (ended (startLineText start)) → RowsPut version s two new q → length (traceText (traceOf version start rs)) ≤ length old
+    → Wrote one two p q (ended (startLineText start)) → RowsPut version 1 s two new q → length (traceText (traceOf version start rs)) ≤ length old
     → new ≡ traceText (traceOf version start rs) ++ drop (length (traceText (traceOf version start rs))) old
 all-written version start rs h a b r l =
     at-start {t = traceText (traceOf version start rs)} (rw (← (trace-cut version start rs)) at (then (then a b) (r .rows rs h .1))) l

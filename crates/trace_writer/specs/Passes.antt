@@ -39,19 +39,19 @@ pub data Unfit (version : ℕ) (s : List ℕ) : ℕ → ℕ → Type 0 where
   malformed : {place : ℕ} → FirstMalformed s place → Unfit version s 23 place
   misfit : {rs : List Record} {place : ℕ} → Holds rs s → FirstMisfit version rs place → Unfit version s 24 place
 
--- How many bytes the rows are, or the first record that can't be written.
-abbrev pub Measures : ℕ → List ℕ → Size → Type 0
-Measures version s (size.Bytes n) = (rs : List Record) × Holds rs s × Carried version rs × (n ≡ length (rowsText version 1 rs))
-Measures version s (size.Bad n p) = Unfit version s n p
+-- How many bytes the rows from number `first` on are, or the first record that can't be written.
+abbrev pub Measures : ℕ → ℕ → List ℕ → Size → Type 0
+Measures version first s (size.Bytes n) = (rs : List Record) × Holds rs s × Carried version rs × (n ≡ length (rowsText version first rs))
+Measures version first s (size.Bad n p) = Unfit version s n p
 
--- The records can be written behind `at`.
-pub record Fits (version : ℕ) (s out : List ℕ) (at : ℕ) : Type 0 where
+-- The records can be written behind `at`, the first as the row with this number.
+pub record Fits (version first : ℕ) (s out : List ℕ) (at : ℕ) : Type 0 where
   pub records : List Record
   pub holds : Holds records s
   pub carried : Carried version records
-  pub few : length records ≤ lastNumber
-  pub room : at + length (rowsText version 1 records) ≤ length out
+  pub few : first + length records ≤ lastNumber + 1
+  pub room : at + length (rowsText version first records) ≤ length out
 
 -- Whatever records the bytes are, their rows were put at `at`.
-pub record RowsPut (version : ℕ) (s before after : List ℕ) (at : ℕ) : Type 0 where
-  pub rows : (rs : List Record) → Holds rs s → (next : ℕ) × Wrote before after at next (rowsText version 1 rs)
+pub record RowsPut (version first : ℕ) (s before after : List ℕ) (at : ℕ) : Type 0 where
+  pub rows : (rs : List Record) → Holds rs s → (next : ℕ) × Wrote before after at next (rowsText version first rs)

@@ -115,7 +115,7 @@ fn misfit_after(misfit: u64, k: u64, n: usize) -> u64
 // The first pass: every record is judged, and the rows are measured.
 fn measure(version: u64, records: &[u8]) -> Size
     requires { ⌜ Whole (now records) ⌝ }
-    ensures { λ m. ⌜ Measures version (now (records .entry)) m ⌝ }
+    ensures { λ m. ⌜ Measures version 1 (now (records .entry)) m ⌝ }
 {
     let mut at: usize = 0;
     let mut k: u64 = 0;
@@ -147,8 +147,8 @@ fn measure(version: u64, records: &[u8]) -> Size
 // The second pass: the rows are put behind `from`, where there is room. No record is judged any more. The digits of the row number over ten
 // are kept in `tens` from row to row, and those of the offset's whole seconds in `seconds`: `last` is their number.
 fn put_rows(version: u64, records: &[u8], out: &mut [u8], from: usize)
-    requires { ⌜ Fits version (now records) (now out) from ⌝ }
-    ensures { λ _. ⌜ RowsPut version (now (records .entry)) (now (out .entry)) (now (out .exit)) from ⌝ }
+    requires { ⌜ Fits version 1 (now records) (now out) from ⌝ }
+    ensures { λ _. ⌜ RowsPut version 1 (now (records .entry)) (now (out .entry)) (now (out .exit)) from ⌝ }
 {
     let mut at = 0;
     let mut k: u64 = 0;

@@ -16,7 +16,7 @@ use Rattle.trace_writer.proofs.put_rows.Tie as tie
 
 abbrev Inv-loop : tie.InvT-loop
 Inv-loop version s out₀ from at₀ k₀ p₀ pairs last₀ tens₀ seconds₀ t₀ u₀ out at k p last tens seconds t u =
-    Putting version s out₀ out from at k p × (take t tens ≡ decimalText (k / 10)) × (t ≤ 20) × (take u seconds ≡ decimalText last) × (u ≤ 20)
+    Putting version 1 s out₀ out from at k p × (take t tens ≡ decimalText (k / 10)) × (t ≤ 20) × (take u seconds ≡ decimalText last) × (u ≤ 20)
 
 abbrev μ-loop : tie.MeasureT-loop
 μ-loop version s out₀ from at₀ k₀ p₀ pairs last₀ tens₀ seconds₀ t₀ u₀ out at k p last tens seconds t u = length s - at
@@ -38,7 +38,7 @@ put-rows-spec =
     let o = length-one 0 (omega arith) in
     let x = c .before .before .before .before .put-decimal .ensures in
     let y = c .before .put-decimal2 .ensures in
-    (putting (c .before .before .before .before .before .before .before .before .before .pre), put-first x (omega arith), omega (arith, x .next), put-first y (omega arith), omega (arith, y .next)))
+    (putting (omega arith) (c .before .before .before .before .before .before .before .before .before .pre), put-first x (omega arith), omega (arith, x .next), put-first y (omega arith), omega (arith, y .next)))
     (λ c. let n = c .before .loop .inv .0 .few in omega arith)
     (λ c. omega arith)
     (λ c κs.

@@ -49,7 +49,7 @@ put-trace-spec =
       records = g .0;
       holds = g .1;
       carried = g .2;
-      few = w .few;
+      few = omega (arith, w .few);
       room = omega (arith, g .3, length-append (ended (versionLineText (a .version))) (ended (startLineText (a .start))), c .before .before .before .before .before .before .before .before .before .before .head-length .ensures .0, c .before .before .before .before .before .before .before .before .before .if1 .left, c .before .before .before .before .before .before .before .put-version-line .ensures .next, c .before .before .before .put-start-line .ensures .next);
     })
     (λ c. search needs)
