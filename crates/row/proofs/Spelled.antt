@@ -169,8 +169,8 @@ row-spelled {v} {k} {r} w c l h =
     let p = each-map (λ g a. all-map (λ b q. q .blank) a) (fields-plain f) in
     record { fields = rowTexts v k r; parted = parted-joined (row-sized w c h) p; row = f }
 
--- It has at most 67 bytes: each column at its longest, though no row has all of them so.
-pub row-size : {v k : ℕ} {r : Record} → WellFormed r → Carries r v → k ≤ lastNumber → length (rowText v k r) ≤ 67
+-- It has at most 64 bytes: `999999) 99999999999.999 16 Rx 1FFFFFFF 8`, and eight bytes.
+pub row-size : {v k : ℕ} {r : Record} → WellFormed r → Carries r v → k ≤ lastNumber → length (rowText v k r) ≤ 64
 row-size {v} {k} {r} w c h = let s = joined-short (rw row-texts at (row-sized {k = k} w c h)) in rw row-texts (omega arith)
 
 -- So it is within the 250 bytes of a line.

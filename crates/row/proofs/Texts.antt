@@ -1,14 +1,16 @@
 -- The house texts: what each is, case by case, how long it is, and that joined fields are parted so.
 use Prim.Native.Nat.{ℕ, zero, suc, _+_, _*_, _-_, _/_, _%_, _^_, _≤_, _<_}
 use mathlib.Core.Path.{_≡_, refl, sym, _∙_}
-use mathlib.Core.Logic.{_≢_}
+use mathlib.Core.Logic.{_≢_, ⊎-elim}
+use mathlib.Core.Bool.{cond}
 use mathlib.Core.List.{List, [], _∷_, _++_, append-nil}
 use native.Mathlib.Decide.{ℕ-discrete}
 use native.Mathlib.Omega.{arith}
-use borrow.Author.Tests.{eq-eqb, ne-eqb}
-use lib.Dec.{leb, leb→le}
+use borrow.Author.Tests.{eq-eqb, ne-eqb, lt-ltb, le-ltb}
+use lib.Dec.{leb, ltb, leb→le}
 use lib.ListN.{length, getD, length-append}
 use Rattle.base.specs.Limits.{offsetLimit}
+use Rattle.base.proofs.Numbers.{below-or-not}
 use Rattle.base.proofs.Tables.{both, both-left, both-right, at}
 use Rattle.digits.specs.declared.Letters.the-variants.{Capital}
 use Rattle.digits.specs.House.{decimalText, paddedText, hexText, glyphOf, figureOf}
@@ -151,13 +153,17 @@ offset-size v offset l h =
     let e = length-append (decimalText (offset / 1000)) (46 ∷ paddedText w n) in
     rw offset-text (omega arith, omega arith)
 
-mark-size : (kind : ℕ) → kind ≤ 5 → Fits 5 (markText kind)
+-- `Rx` and `Tx`, for frames, are shorter than `Warng` and `Error`.
+abbrev markWidth : ℕ → ℕ
+markWidth kind = cond (ltb kind 4) 2 5
+
+mark-size : (kind : ℕ) → kind ≤ 5 → Fits (markWidth kind) (markText kind)
 mark-size kind h =
-    let t = at (λ k f. both (leb 1 (length f)) (leb (length f) 5)) [] marks tt kind (omega arith) in
+    let t = at (λ k f. both (leb 1 (length f)) (leb (length f) (markWidth k))) [] marks tt kind (omega arith) in
     let f = getD marks kind [] in
     rw mark-text (
-      leb→le 1 (length f) (both-left (leb 1 (length f)) (leb (length f) 5) t),
-      leb→le (length f) 5 (both-right (leb 1 (length f)) (leb (length f) 5) t),
+      leb→le 1 (length f) (both-left (leb 1 (length f)) (leb (length f) (markWidth kind)) t),
+      leb→le (length f) (markWidth kind) (both-right (leb 1 (length f)) (leb (length f) (markWidth kind)) t),
     )
 
 id-size : (r : Record) → r .extended ≤ 1 → Fits 8 (idText r)
@@ -184,20 +190,40 @@ data-size r h = go (ℕ-discrete (r .kind / 2) 1)
     go (yes e) = rw (data-remote r e) (fits 24 3 0 (omega arith, omega arith) (omega arith) nil)
     go (no n) = rw (data-bytes r n) (wider (3 * r .len) 24 (omega arith) (bytes-size (256 ^ 7) (r .len) (r .«data»)))
 
-mark-sized : {r : Record} → WellFormed r → Sized 41 (markTexts r)
-mark-sized {r} w =
-    fits 41 5 35 (mark-size (r .kind) (w .kind)) (omega arith)
-    (fits 35 8 26 (id-size r (w .extended)) (omega arith)
-    (fits 26 1 24 (omega arith, omega arith) (omega arith) (data-size r (w .len))))
+-- A warning and an error frame have four bytes.
+four : {r : Record} → WellFormed r → 4 ≤ r .kind → r .len ≡ 4
+four {r} w h = go (ℕ-discrete (r .kind) 4)
+  where
+    go : Dec (r .kind ≡ 4) → r .len ≡ 4
+    go (yes e) = w .warning e .len
+    go (no n) = let k = w .kind in w .error (omega arith) .len
 
--- No field of the house is empty, and with a blank behind each they have at most 68 bytes.
-pub row-sized : {v k : ℕ} {r : Record} → WellFormed r → Carries r v → k ≤ lastNumber → Sized 68 (rowTexts v k r)
+-- From the mark on: a frame's eight bytes take more than what the long marks have more.
+mark-sized : {r : Record} → WellFormed r → Sized 38 (markTexts r)
+mark-sized {r} w = ⊎-elim frame other (below-or-not (r .kind) 4)
+  where
+    frame : r .kind < 4 → Sized 38 (markTexts r)
+    frame h =
+        fits 38 2 35 (rw (lt-ltb (r .kind) 4 h) at (mark-size (r .kind) (w .kind))) (omega arith)
+        (fits 35 8 26 (id-size r (w .extended)) (omega arith)
+        (fits 26 1 24 (omega arith, omega arith) (omega arith) (data-size r (w .len))))
+
+    other : 4 ≤ r .kind → Sized 38 (markTexts r)
+    other h =
+        let n : r .kind / 2 ≢ 1 = λ e. omega arith in
+        let d = wider (3 * r .len) 12 (omega (arith, four w h)) (bytes-size (256 ^ 7) (r .len) (r .«data»)) in
+        fits 38 5 23 (rw (le-ltb (r .kind) 4 h) at (mark-size (r .kind) (w .kind))) (omega arith)
+        (fits 23 8 14 (id-size r (w .extended)) (omega arith)
+        (fits 14 1 12 (omega arith, omega arith) (omega arith) (rw (data-bytes r n) d)))
+
+-- No field of the house is empty, and with a blank behind each they have at most 65 bytes.
+pub row-sized : {v k : ℕ} {r : Record} → WellFormed r → Carries r v → k ≤ lastNumber → Sized 65 (rowTexts v k r)
 row-sized {k = k} {r = r} w (v11 b o) h =
     rw row-texts-11
-    (fits 68 7 60 (number-size k h) (omega arith)
-    (fits 60 15 41 (offset-size 11 (r .offset) (omega arith) (w .offset)) (omega arith) (mark-sized w)))
+    (fits 65 7 57 (number-size k h) (omega arith)
+    (fits 57 15 38 (offset-size 11 (r .offset) (omega arith) (w .offset)) (omega arith) (mark-sized w)))
 row-sized {k = k} {r = r} w (v12 l b) h =
     rw row-texts-12
-    (fits 68 7 60 (number-size k h) (omega arith)
-    (fits 60 15 44 (offset-size 12 (r .offset) (omega arith) (w .offset)) (omega arith)
-    (fits 44 2 41 (decimal-size 1 (r .bus) (omega arith)) (omega arith) (mark-sized w))))
+    (fits 65 7 57 (number-size k h) (omega arith)
+    (fits 57 15 41 (offset-size 12 (r .offset) (omega arith) (w .offset)) (omega arith)
+    (fits 41 2 38 (decimal-size 1 (r .bus) (omega arith)) (omega arith) (mark-sized w))))

@@ -67,9 +67,9 @@ start-line-size start h =
     let p = length-fixed figureOf 10 10 (dayFraction (start % dayMs)) in
     simp (start-line, length-append) (omega arith)
 
--- At most 67 bytes a row, and its end.
+-- At most 64 bytes a row, and its end.
 pub rows-size : {version : ℕ} {rs : List Record} (k : ℕ) → Each WellFormed rs → Carried version rs → k + length rs ≤ lastNumber + 1
-    → length (rowsText version k rs) ≤ 69 * length rs
+    → length (rowsText version k rs) ≤ 66 * length rs
 rows-size k none none h = rw rows-none (omega arith)
 rows-size k (more f fs) (more c cs) h =
     let n : k ≤ lastNumber = omega arith in

@@ -3,8 +3,7 @@ use Prim.Native.Nat.{ℕ, _+_, _-_, _≤_, _<_}
 use mathlib.Core.Path.{_≡_, refl, ap, sym, _∙_}
 use mathlib.Core.List.{List, [], _∷_, _++_, append-nil}
 use native.Mathlib.Omega.{arith}
-use native.Mathlib.Decide.{ℕ-discrete}
-use lib.ListN.{length, take, drop, length-append, length-drop, length-take, take-append-drop}
+use lib.ListN.{length, take, drop, length-append, length-drop, take-append-drop}
 use lib.Seq.{take-add, take-at, take-all, length-take-le}
 use Rattle.record.specs.declared.Record.{Record}
 use Rattle.row.specs.Versions.{headLines}
@@ -17,7 +16,7 @@ use Rattle.trace.specs.Passes.{There, NoRow, Bars, Headed, Judges}
 use Rattle.trace.specs.Promise
 use Rattle.trace.specs.Passes
 use Rattle.trace.proofs.Cuts.{endedLine, first-alone, first-whole, lines-alone, lines-append, spells-none, spells-append}
-use Rattle.trace.proofs.Fails.{Stands, at-later, Stopped, later, stopped-refused}
+use Rattle.trace.proofs.Fails.{at-later, Stopped, later, stopped-refused}
 use Rattle.trace.proofs.Fails
 
 -- The lines up to `at` are judged: they spell these records, and the first row has number `first`.

@@ -1,20 +1,19 @@
 -- The first two lines: what each answer of their readers makes of the text.
-use Prim.Native.Nat.{ℕ, _+_, _-_, _≤_, _<_}
+use Prim.Native.Nat.{ℕ, _≤_, _<_}
 use mathlib.Core.Path.{_≡_, refl, ap, sym, _∙_}
 use mathlib.Core.List.{List, [], _∷_, _++_}
 use native.Mathlib.Omega.{arith}
 use lib.ListN.{length, take, drop, length-drop, take-append-drop, drop-of-length-le}
-use lib.Seq.{slice, length-slice}
 use Rattle.row.proofs.EachVersion.{version-low}
 use Rattle.row_reader.specs.Answer.{lineLimit}
 use Rattle.lines.specs.Lines.{FirstLine, VersionLine, StartLine}
 use Rattle.lines.specs.Answer.{VersionOr0, version, none}
-use Rattle.trace.specs.Trace.{sizeLimit, Trace, Line, over, Spells}
-use Rattle.trace.specs.Promise.{Lines, Refused}
+use Rattle.trace.specs.Trace.{sizeLimit, Line, over}
+use Rattle.trace.specs.Promise.{Refused}
 use Rattle.trace.specs.Passes.{There, Versioned, Headed}
-use Rattle.trace.proofs.Cuts.{endedLine, first-alone, first-there, lines-alone, lines-append, line-more}
+use Rattle.trace.proofs.Cuts.{endedLine, first-alone, first-there, lines-alone, lines-append}
 use Rattle.trace.proofs.Fails
-use Rattle.trace.proofs.Fails.{Stands, at-first, at-second, Stopped, unended, long, no-first, no-version, no-second, no-start, stopped-refused}
+use Rattle.trace.proofs.Fails.{Stands, at-first, at-second, unended, long, no-first, no-version, no-second, no-start, stopped-refused}
 use Rattle.trace.proofs.Judging.{up-to}
 
 empty : (s : List ℕ) → length s ≡ 0 → s ≡ []

@@ -1,6 +1,5 @@
 -- What a trace is, and how it is spelled: a relation between its values and the bytes of a text.
 use Prim.Native.Nat.{ℕ, _+_, _≤_, _<_}
-use mathlib.Core.Path.{_≡_}
 use mathlib.Core.List.{List, [], _∷_, _++_}
 use lib.ListN.{length}
 use Rattle.record.specs.declared.Record.{Record}

@@ -24,7 +24,7 @@ use Rattle.trace_writer.proofs.Rows.{rows-snoc}
 -- The first row has number `first`, and `wrong` is the first misfit, or 0.
 pub record Measuring (version first : ℕ) (s : List ℕ) (at k bytes wrong : ℕ) : Type 0 where
   pub judged : Through s at k
-  pub bounded : bytes ≤ 69 * k
+  pub bounded : bytes ≤ 66 * k
   pub fits : wrong ≡ 0 → Carried version (judged .records) × (bytes ≡ length (rowsText version first (judged .records)))
   pub unfit : wrong ≢ 0 → FirstMisfit version (judged .records) wrong
 
@@ -81,7 +81,7 @@ module _ {version first : ℕ} {s : List ℕ} {at k bytes wrong : ℕ} (m : Meas
               at = a .kept f ∙ u .at;
             }
 
-    pub measured-more : {number : ℕ} → number ≡ first + k → RowBytes version number r n × (n ≤ 69)
+    pub measured-more : {number : ℕ} → number ≡ first + k → RowBytes version number r n × (n ≤ 66)
         → Measuring version first s (at + 20) (k + 1) (bytes + n) new
     measured-more q b =
         let x = rw q at (b .0) in

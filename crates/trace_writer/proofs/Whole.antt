@@ -37,7 +37,7 @@ writable {rs = rs} w v l h c = record {
 }
 
 -- The rows fit a machine word many times over.
-pub rows-few : {version start : ℕ} {rs : List Record} → Writable (traceOf version start rs) → length (rowsText version 1 rs) ≤ 68999931
+pub rows-few : {version start : ℕ} {rs : List Record} → Writable (traceOf version start rs) → length (rowsText version 1 rs) ≤ 65999934
 rows-few w = let f = w .few in omega (arith, rows-size 1 (w .formed) (w .carried) (omega arith))
 
 -- The first record that can't be written stops the rest.

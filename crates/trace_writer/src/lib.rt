@@ -91,7 +91,7 @@ fn head_length(version: u64, start: u64) -> usize
 // How many bytes a row with its end is, or 0 if the version can't carry it.
 fn row_bytes(version: u64, k: u64, r: Record) -> usize
     requires { ⌜ WellFormed r × (1 ≤ k) × (k ≤ lastNumber) ⌝ }
-    ensures { λ n. ⌜ RowBytes version k r n × (n ≤ 69) ⌝ }
+    ensures { λ n. ⌜ RowBytes version k r n × (n ≤ 66) ⌝ }
 {
     if !carries(r, version) {
         return 0;
