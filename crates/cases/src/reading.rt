@@ -108,7 +108,7 @@ fn row(s: &[u8], version: u64, k: u64) {
 
 // Tries a case of reading, if the word is one. What is read stands behind a colon and a blank.
 pub(crate) fn tried(word: u64, line: &[u8]) -> bool {
-    let a = numbers(before(line, b':'));
+    let a = numbers(before(line, b':'), 2, 2);
     let s = behind(behind(line, b':'), b' ');
     match word {
         READ => {

@@ -130,7 +130,7 @@ fn unpack(a: [u64; 9]) {
 
 // Tries a case of one record, if the word is one.
 pub(crate) fn tried(word: u64, line: &[u8]) -> bool {
-    let a = numbers(line);
+    let a = numbers(line, 2, 2);
     match word {
         PACK => {
             pack(record_of(a), a[7] as usize);

@@ -137,7 +137,7 @@ fn export(a: [u64; 9]) {
 
 // Tries a case of several records, if the word is one.
 pub(crate) fn tried(word: u64, line: &[u8]) -> bool {
-    let a = numbers(line);
+    let a = numbers(line, 2, 2);
     match word {
         WRITE => {
             write(a);
