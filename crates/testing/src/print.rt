@@ -1,4 +1,5 @@
 // How answers are printed: numbers and bytes behind a blank each, texts in one line.
+use crate::words::front;
 use base::wide;
 use libc::STDOUT_FILENO;
 
@@ -91,4 +92,11 @@ pub fn rest(out: &[u8], from: usize) {
         return text(b" untouched");
     }
     text(b" touched");
+}
+
+// An output: its first n bytes as a text, and whether it is untouched behind them.
+pub fn output(out: &[u8], n: usize) {
+    byte(b' ');
+    shown(front(out, n));
+    rest(out, n);
 }
