@@ -1,18 +1,12 @@
-"""Texts, judged by the lines of paper 01."""
+"""Texts, by paper 01's lines of a trace, its sentences on writing, and its numbers."""
 import re
-from fractions import Fraction
-import rows
-
-def bits(r):
-    fields = r[:6] + (int.from_bytes(r[6], 'big'),)
-    text = ''.join(format(v, '0%db' % w) for v, w in zip(fields, (48, 5, 3, 1, 29, 4, 64))) + '000000'
-    return bytes(int(text[i:i + 8], 2) for i in range(0, 160, 8))
+import clock, records, rows
 
 def start(line):
     m = re.fullmatch(rb'; *\$STARTTIME=(0|[1-9][0-9]{0,4})\.([0-9]{1,10}) *', line)
     if not m: return None
-    ms = ((int(m[1]) + Fraction(int(m[2]), 10 ** len(m[2]))) * 86_400_000 + Fraction(1, 2)).__floor__()
-    return ms if ms <= 8_639_999_999_999 else None
+    ms = clock.start(int(m[1]), m[2])
+    return ms if ms <= clock.LAST_START else None
 
 def read(text, room):
     """the six numbers, and the records"""
@@ -42,3 +36,18 @@ def read(text, room):
     if 20 * len(found) > room: return (8, 0, 0, 0, 0, 0), []
     back = next((i + 1 for i in range(1, len(found)) if found[i][0] < found[i - 1][0]), 0)
     return (0, 0, version, began, len(found), back), found
+
+def write(version, start, s, room):
+    """number, place and text"""
+    number, place, found = records.several(s)
+    if number == 20: return 20, 0, ''
+    if version not in (11, 12): return 21, 0, ''
+    if start > clock.LAST_START: return 22, 0, ''
+    if number: return number, place, ''
+    for k, f in enumerate(found, 1):
+        if not rows.carried(version, f[0], f[1]): return 24, k, ''
+    day, ms = divmod(start, clock.DAY)
+    lines = [';$FILEVERSION=' + {11: '1.1', 12: '1.2'}[version], ';$STARTTIME=%d.%010d' % (day, clock.fraction(ms))]
+    lines += [rows.written(version, k, *f) for k, f in enumerate(found, 1)]
+    text = ''.join(line + '\r\n' for line in lines)
+    return (25, 0, '') if len(text) > room else (0, 0, text)

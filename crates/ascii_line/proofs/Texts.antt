@@ -6,28 +6,26 @@ use native.Mathlib.Decide.{ℕ-discrete}
 use native.Mathlib.Omega.{arith}
 use borrow.Author.Tests.{eq-eqb, ne-eqb}
 use lib.ListN.{length, length-append, drop-of-length-le}
+use Rattle.base.specs.Spaced.{spaced}
 use Rattle.base.specs.Wrote.{Wrote}
 use Rattle.base.proofs.Lists.{at-start}
+use Rattle.base.proofs.Spaced.{spaced-none, spaced-more, spaced-append}
 use Rattle.digits.specs.declared.Letters.the-variants.{Small}
-use Rattle.digits.specs.House.{decimalText, paddedText, hexText}
+use Rattle.digits.specs.House.{decimalText, paddedText, hexText, byteTexts}
+use Rattle.digits.proofs.ByteTexts.{length-bytes}
 use Rattle.digits.proofs.House.{length-fixed, few}
 use Rattle.clock.specs.declared.CalendarDay.{CalendarDay}
 use Rattle.clock.specs.declared.DayTime.{DayTime}
 use Rattle.clock.specs.declared.DateTime.{DateTime}
 use Rattle.record.specs.declared.Record.{Record}
-use Rattle.row.specs.House.{byteTexts}
-use Rattle.row_writer.specs.Parts.{spaced}
-use Rattle.row_writer.proofs.Rows.{spaced-none, spaced-more, spaced-append}
-use Rattle.row_writer.proofs.Bytes.{length-bytes}
 use Rattle.ascii_line.specs.Line.{dateText, timeText, stampText, typeText, extendedTexts, directionText, idText, partTexts, lineText}
-use Rattle.ascii_line.specs.Parts.{clockText, secondText, sourceText, barText, wayText, dataText, restText, frameText}
+use Rattle.ascii_line.specs.Parts.{twoText, clockText, secondText, sourceText, barText, wayText, dataText, restText, frameText}
 
-pub date : (d : CalendarDay) → dateText d ≡ paddedText 2 (d .day) ++ (46 ∷ (paddedText 2 (d .month) ++ (46 ∷ paddedText 4 (d .year))))
+pub date : (d : CalendarDay) → dateText d ≡ twoText (d .day) (d .month) 46 ++ paddedText 4 (d .year)
 unfolding dateText
-date d = refl
+date d = simp append-assoc
 
-pub clock : (t : DayTime)
-    → clockText t ≡ paddedText 2 (t .hour) ++ (58 ∷ (paddedText 2 (t .minute) ++ (58 ∷ (paddedText 2 (t .second) ++ (46 ∷ [])))))
+pub clock : (t : DayTime) → clockText t ≡ twoText (t .hour) (t .minute) 58 ++ (paddedText 2 (t .second) ++ (46 ∷ []))
 unfolding clockText
 clock t = refl
 
@@ -81,13 +79,9 @@ way-cut x kind =
 pub way : (x kind : ℕ) → kind ≤ 1 → wayText x kind ≡ barText x ++ ((82 + 2 * kind) ∷ 120 ∷ [])
 way x kind k = rw (way-cut, direction kind k)
 
-pub extended-id : (r : Record) → r .extended ≡ 1 → idText r ≡ hexText Small 8 (r .id)
+pub id : (r : Record) → idText r ≡ hexText Small (3 + 5 * r .extended) (r .id)
 unfolding idText
-extended-id r e = rw e
-
-pub standard-id : (r : Record) → r .extended ≡ 0 → idText r ≡ hexText Small 3 (r .id)
-unfolding idText
-standard-id r e = rw e
+id r = refl
 
 -- The line is what is written.
 
@@ -136,11 +130,8 @@ length-direction kind = elim (ℕ-discrete kind 0) [ yes e ↦ rw (eq-eqb kind 0
 pub length-way : (x kind : ℕ) → length (wayText x kind) ≡ length (barText x) + 2
 length-way x kind = rw (way-cut, length-append, length-direction)
 
-pub length-extended-id : (r : Record) → r .extended ≡ 1 → length (idText r) ≡ 8
-length-extended-id r e = rw (extended-id r e, length-fixed)
-
-pub length-standard-id : (r : Record) → r .extended ≡ 0 → length (idText r) ≡ 3
-length-standard-id r e = rw (standard-id r e, length-fixed)
+pub length-id : (r : Record) → length (idText r) ≡ 3 + 5 * r .extended
+length-id r = rw (id, length-fixed)
 
 pub length-data : (r : Record) → length (dataText r) ≡ 2 + 3 * r .len
 length-data r = omega (arith, length-bytes Small (256 ^ 7) (r .len) (r .«data»))
@@ -158,12 +149,12 @@ frame-length n r = simp length-append (omega arith)
 
 pub extended-length : (n : ℕ) (r : Record) → r .extended ≡ 1 → length (frameText n r) ≡ length (decimalText n) + 3 * r .len + 36
 extended-length n r h =
-    omega (arith, frame-length n r, ap length (extended-source (r .extended) h), length-way (r .extended) (r .kind), ap length (extended-bar (r .extended) h), length-extended-id r h, length-data r)
+    omega (arith, frame-length n r, ap length (extended-source (r .extended) h), length-way (r .extended) (r .kind), ap length (extended-bar (r .extended) h), length-id r, length-data r)
 
 pub standard-length : (n : ℕ) (r : Record) → r .extended ≡ 0 → length (frameText n r) ≡ length (decimalText n) + 3 * r .len + 19
 standard-length n r h =
     let f : r .extended ≡ 1 → ⊥ = λ k. omega arith in
-    omega (arith, frame-length n r, ap length (standard-source (r .extended) f), length-way (r .extended) (r .kind), ap length (standard-bar (r .extended) f), length-standard-id r h, length-data r)
+    omega (arith, frame-length n r, ap length (standard-source (r .extended) f), length-way (r .extended) (r .kind), ap length (standard-bar (r .extended) f), length-id r, length-data r)
 
 pub short-channel : (n : ℕ) → n ≤ 16 → length (decimalText n) ≤ 2
 short-channel n h = few 1 n (omega arith)

@@ -3,38 +3,38 @@ use Prim.Native.Nat.{ℕ, _+_, _*_, _^_}
 use mathlib.Core.Bool.{cond}
 use mathlib.Core.List.{List, [], _∷_, _++_}
 use lib.Dec.{eqb}
+use Rattle.base.specs.Spaced.{spaced}
 use Rattle.digits.specs.declared.Letters.the-variants.{Small}
-use Rattle.digits.specs.House.{decimalText, paddedText, hexText}
+use Rattle.digits.specs.House.{decimalText, paddedText, hexText, byteTexts, figureOf}
+use Rattle.base.specs.Text.{text, blank, point, colon, cr, lf}
 use Rattle.clock.specs.declared.CalendarDay.{CalendarDay}
 use Rattle.clock.specs.declared.DayTime.{DayTime}
 use Rattle.clock.specs.declared.DateTime.{DateTime}
 use Rattle.record.specs.declared.Record.{Record}
 use Rattle.fields.specs.Columns.{markRx, markTx}
-use Rattle.row.specs.House.{byteTexts}
-use Rattle.row_writer.specs.Parts.{spaced}
 
 -- `dd.mm.yyyy`
 unfoldable pub dateText : CalendarDay → List ℕ
-dateText d = paddedText 2 (d .day) ++ (46 ∷ (paddedText 2 (d .month) ++ (46 ∷ paddedText 4 (d .year))))
+dateText d = paddedText 2 (d .day) ++ (point ∷ (paddedText 2 (d .month) ++ (point ∷ paddedText 4 (d .year))))
 
 -- `hh:mm:ss.xxxx`
 unfoldable pub timeText : DayTime → List ℕ
-timeText t = paddedText 2 (t .hour) ++ (58 ∷ (paddedText 2 (t .minute) ++ (58 ∷ (paddedText 2 (t .second) ++ (46 ∷ paddedText 4 (t .part))))))
+timeText t = paddedText 2 (t .hour) ++ (colon ∷ (paddedText 2 (t .minute) ++ (colon ∷ (paddedText 2 (t .second) ++ (point ∷ paddedText 4 (t .part))))))
 
 abbrev pub stampText : DateTime → List ℕ
-stampText s = dateText (s .date) ++ (32 ∷ timeText (s .time))
+stampText s = dateText (s .date) ++ (blank ∷ timeText (s .time))
 
 -- `CAN`, and `CANExt` for an extended ID.
 unfoldable pub typeText : ℕ → List ℕ
-typeText extended = cond (eqb extended 1) (67 ∷ 65 ∷ 78 ∷ 69 ∷ 120 ∷ 116 ∷ []) (67 ∷ 65 ∷ 78 ∷ [])
+typeText extended = cond (eqb extended 1) (text "CANExt") (text "CAN")
 
 -- `#` and the channel.
 abbrev pub channelText : ℕ → List ℕ
-channelText channel = 35 ∷ decimalText channel
+channelText channel = text "#" ++ decimalText channel
 
 -- `EXTENDED` before the direction, for an extended ID.
 unfoldable pub extendedTexts : ℕ → List (List ℕ)
-extendedTexts extended = cond (eqb extended 1) ((69 ∷ 88 ∷ 84 ∷ 69 ∷ 78 ∷ 68 ∷ 69 ∷ 68 ∷ []) ∷ []) []
+extendedTexts extended = cond (eqb extended 1) (text "EXTENDED" ∷ []) []
 
 -- `Rx` for received, `Tx` for sent.
 unfoldable pub directionText : ℕ → List ℕ
@@ -47,8 +47,8 @@ idText r = hexText Small (3 + 5 * r .extended) (r .id)
 -- What stands behind the stamp.
 abbrev pub partTexts : ℕ → Record → List (List ℕ)
 partTexts channel r =
-    typeText (r .extended) ∷ channelText channel ∷ (124 ∷ [])
-    ∷ (extendedTexts (r .extended) ++ (directionText (r .kind) ∷ idText r ∷ ((48 + r .len) ∷ []) ∷ byteTexts Small (256 ^ 7) (r .len) (r .«data»)))
+    typeText (r .extended) ∷ channelText channel ∷ text "|"
+    ∷ (extendedTexts (r .extended) ++ (directionText (r .kind) ∷ idText r ∷ (figureOf (r .len) ∷ []) ∷ byteTexts Small (256 ^ 7) (r .len) (r .«data»)))
 
 unfoldable pub lineText : DateTime → ℕ → Record → List ℕ
-lineText s channel r = stampText s ++ (spaced (partTexts channel r) ++ (13 ∷ 10 ∷ []))
+lineText s channel r = stampText s ++ (spaced (partTexts channel r) ++ (cr ∷ lf ∷ []))

@@ -2,22 +2,26 @@
 use Prim.Native.Nat.{ℕ, _+_, _^_}
 use mathlib.Core.Path.{_≡_}
 use mathlib.Core.List.{List, [], _∷_, _++_}
+use Rattle.base.specs.Spaced.{spaced}
 use Rattle.digits.specs.declared.Letters.the-variants.{Small}
-use Rattle.digits.specs.House.{decimalText, paddedText}
+use Rattle.digits.specs.House.{decimalText, paddedText, byteTexts, figureOf}
+use Rattle.base.specs.Text.{text, blank, point, colon, cr, lf}
 use Rattle.clock.specs.declared.DayTime.{DayTime}
 use Rattle.clock.specs.declared.DateTime.{DateTime}
 use Rattle.record.specs.declared.Record.{Record}
-use Rattle.row.specs.House.{byteTexts}
-use Rattle.row_writer.specs.Parts.{spaced}
 use Rattle.ascii_line.specs.Line.{dateText, typeText, extendedTexts, directionText, idText}
+
+-- Two numbers of two digits, with this byte behind each.
+abbrev pub twoText : ℕ → ℕ → ℕ → List ℕ
+twoText m n b = paddedText 2 m ++ (b ∷ (paddedText 2 n ++ (b ∷ [])))
 
 -- `hh:mm:ss.`
 unfoldable pub clockText : DayTime → List ℕ
-clockText t = paddedText 2 (t .hour) ++ (58 ∷ (paddedText 2 (t .minute) ++ (58 ∷ (paddedText 2 (t .second) ++ (46 ∷ [])))))
+clockText t = twoText (t .hour) (t .minute) colon ++ (paddedText 2 (t .second) ++ (point ∷ []))
 
 -- A stamp up to its point: all but its part.
 unfoldable pub secondText : DateTime → List ℕ
-secondText s = dateText (s .date) ++ (32 ∷ clockText (s .time))
+secondText s = dateText (s .date) ++ (blank ∷ clockText (s .time))
 
 -- These bytes and this part are the stamp's.
 pub record Begins (second : List ℕ) (part : ℕ) (s : DateTime) : Type 0 where
@@ -26,23 +30,23 @@ pub record Begins (second : List ℕ) (part : ℕ) (s : DateTime) : Type 0 where
 
 -- The type behind one blank, and the `#` of the channel behind another.
 abbrev pub sourceText : ℕ → List ℕ
-sourceText extended = (32 ∷ typeText extended) ++ (32 ∷ 35 ∷ [])
+sourceText extended = (blank ∷ typeText extended) ++ text " #"
 
 -- The bar and, for an extended ID, `EXTENDED`, each behind one blank, and the blank of the direction.
 abbrev pub barText : ℕ → List ℕ
-barText extended = spaced ((124 ∷ []) ∷ extendedTexts extended) ++ (32 ∷ [])
+barText extended = spaced (text "|" ∷ extendedTexts extended) ++ (blank ∷ [])
 
 -- The bar and the direction, each behind one blank.
 abbrev pub wayText : ℕ → ℕ → List ℕ
-wayText extended kind = spaced ((124 ∷ []) ∷ (extendedTexts extended ++ (directionText kind ∷ [])))
+wayText extended kind = spaced (text "|" ∷ (extendedTexts extended ++ (directionText kind ∷ [])))
 
 -- Length and bytes, each behind one blank.
 abbrev pub dataText : Record → List ℕ
-dataText r = (32 ∷ (48 + r .len) ∷ []) ++ spaced (byteTexts Small (256 ^ 7) (r .len) (r .«data»))
+dataText r = (blank ∷ figureOf (r .len) ∷ []) ++ spaced (byteTexts Small (256 ^ 7) (r .len) (r .«data»))
 
 -- ID, length and bytes, and CR LF.
 abbrev pub restText : Record → List ℕ
-restText r = (32 ∷ idText r) ++ (dataText r ++ (13 ∷ 10 ∷ []))
+restText r = (blank ∷ idText r) ++ (dataText r ++ (cr ∷ lf ∷ []))
 
 -- What stands behind the stamp, and CR LF.
 abbrev pub frameText : ℕ → Record → List ℕ

@@ -1,5 +1,6 @@
 // One line of Telemotive ASCII: the line of one record, and how many bytes that is.
 use base::put_byte;
+use base::put_end;
 use base::put_text;
 use clock::CalendarDay;
 use clock::DateTime;
@@ -9,18 +10,31 @@ use digits::decimal_length;
 use digits::put_decimal;
 use digits::put_hex;
 use digits::put_padded;
+use digits::put_pairs;
 use record::Record;
-use row_writer::put_pairs;
 ghost use mathlib.Core.Path.{_≡_};
 ghost use mathlib.Core.List.{_∷_};
 ghost use Prim.Native.Nat.{_+_, _≤_};
 ghost use lib.ListN.{length};
+ghost use Rattle.base.specs.Text.{blank};
 ghost use Rattle.base.specs.Wrote.{Wrote};
 ghost use Rattle.digits.specs.House.{PairsOf};
 ghost use Rattle.digits.specs.declared.Letters.the-variants.{Small};
 ghost use Rattle.clock.specs.declared.DateTime.{DateTime as AnyStamp};
 ghost use Rattle.ascii_line.specs.Line.{dateText, idText, lineText};
-ghost use Rattle.ascii_line.specs.Parts.{clockText, secondText, Begins, sourceText, barText, wayText, dataText, restText, frameText};
+ghost use Rattle.ascii_line.specs.Parts.{twoText, clockText, secondText, Begins, sourceText, barText, wayText, dataText, restText, frameText};
+
+// Two numbers of two digits, with this byte behind each.
+fn put_two(out: &mut [u8], at: usize, m: u64, n: u64, b: u8) -> usize
+    requires { ⌜ at + 6 ≤ length (now out) ⌝ }
+    ensures { λ r. ⌜ Wrote (now (out .entry)) (now (out .exit)) at r (twoText m n b) ⌝ }
+    ensures { λ r. ⌜ r ≡ at + 6 ⌝ }
+{
+    let p = put_padded(out, at, 2, m);
+    let q = put_byte(out, p, b);
+    let s = put_padded(out, q, 2, n);
+    put_byte(out, s, b)
+}
 
 // `dd.mm.yyyy`
 fn put_date(out: &mut [u8], at: usize, d: CalendarDay) -> usize
@@ -28,11 +42,8 @@ fn put_date(out: &mut [u8], at: usize, d: CalendarDay) -> usize
     ensures { λ r. ⌜ Wrote (now (out .entry)) (now (out .exit)) at r (dateText d) ⌝ }
     ensures { λ r. ⌜ r ≡ at + 10 ⌝ }
 {
-    let a = put_padded(out, at, 2, d.day);
-    let b = put_byte(out, a, 46);
-    let c = put_padded(out, b, 2, d.month);
-    let e = put_byte(out, c, 46);
-    put_padded(out, e, 4, d.year)
+    let p = put_two(out, at, d.day, d.month, b'.');
+    put_padded(out, p, 4, d.year)
 }
 
 // `hh:mm:ss.`
@@ -41,12 +52,9 @@ fn put_clock(out: &mut [u8], at: usize, t: DayTime) -> usize
     ensures { λ r. ⌜ Wrote (now (out .entry)) (now (out .exit)) at r (clockText t) ⌝ }
     ensures { λ r. ⌜ r ≡ at + 9 ⌝ }
 {
-    let a = put_padded(out, at, 2, t.hour);
-    let b = put_byte(out, a, 58);
-    let c = put_padded(out, b, 2, t.minute);
-    let d = put_byte(out, c, 58);
-    let e = put_padded(out, d, 2, t.second);
-    put_byte(out, e, 46)
+    let p = put_two(out, at, t.hour, t.minute, b':');
+    let q = put_padded(out, p, 2, t.second);
+    put_byte(out, q, b'.')
 }
 
 // Puts a stamp up to its point, `dd.mm.yyyy hh:mm:ss.`: all but its part, and the same for every stamp of a second.
@@ -57,7 +65,7 @@ pub fn put_second(out: &mut [u8; 20], s: DateTime)
     let date = s.date;
     let time = s.time;
     let p = put_date(slots, 0, date);
-    let q = put_byte(slots, p, 32);
+    let q = put_byte(slots, p, b' ');
     put_clock(slots, q, time);
 }
 
@@ -83,27 +91,24 @@ fn put_bar(out: &mut [u8], at: usize, extended: u64) -> usize
     put_text(out, at, b" | ")
 }
 
-// The bar, `EXTENDED` for an extended ID, and `Rx` or `Tx`. `R` is 82 and `T` 84: the byte is computed, since a branch on the kind
+// The bar, `EXTENDED` for an extended ID, and `Rx` or `Tx`. `T` is two behind `R`: the byte is computed, since a branch on the kind
 // would often be guessed wrong.
 fn put_way(out: &mut [u8], at: usize, extended: u64, kind: u64) -> usize
     requires { ⌜ (kind ≤ 1) × (at + length (wayText extended kind) ≤ length (now out)) ⌝ }
     ensures { λ r. ⌜ Wrote (now (out .entry)) (now (out .exit)) at r (wayText extended kind) ⌝ }
 {
     let p = put_bar(out, at, extended);
-    let q = put_byte(out, p, 82 + 2 * kind as u8);
-    put_byte(out, q, 120)
+    let q = put_byte(out, p, b'R' + 2 * kind as u8);
+    put_byte(out, q, b'x')
 }
 
 // Eight digits of an extended ID, three of a standard one.
 fn put_id(out: &mut [u8], at: usize, r: Record) -> usize
-    requires { ⌜ (r .extended ≤ 1) × (at + length (32 ∷ idText r) ≤ length (now out)) ⌝ }
-    ensures { λ e. ⌜ Wrote (now (out .entry)) (now (out .exit)) at e (32 ∷ idText r) ⌝ }
+    requires { ⌜ (r .extended ≤ 1) × (at + length (blank ∷ idText r) ≤ length (now out)) ⌝ }
+    ensures { λ e. ⌜ Wrote (now (out .entry)) (now (out .exit)) at e (blank ∷ idText r) ⌝ }
 {
-    let p = put_byte(out, at, 32);
-    if r.extended == 1 {
-        return put_hex(out, p, 8, r.id, Letters::Small);
-    }
-    put_hex(out, p, 3, r.id, Letters::Small)
+    let p = put_byte(out, at, b' ');
+    put_hex(out, p, 3 + 5 * r.extended as usize, r.id, Letters::Small)
 }
 
 // Length and bytes.
@@ -111,8 +116,8 @@ fn put_data(out: &mut [u8], at: usize, r: Record, pairs: &[u8; 512]) -> usize
     requires { ⌜ (r .len ≤ 8) × (at + length (dataText r) ≤ length (now out)) × PairsOf Small (now pairs) ⌝ }
     ensures { λ e. ⌜ Wrote (now (out .entry)) (now (out .exit)) at e (dataText r) ⌝ }
 {
-    let p = put_byte(out, at, 32);
-    let q = put_byte(out, p, 48 + r.len as u8);
+    let p = put_byte(out, at, b' ');
+    let q = put_byte(out, p, b'0' + r.len as u8);
     put_pairs(out, q, r.len, r.data, pairs)
 }
 
@@ -123,7 +128,7 @@ fn put_rest(out: &mut [u8], at: usize, r: Record, pairs: &[u8; 512]) -> usize
 {
     let p = put_id(out, at, r);
     let q = put_data(out, p, r, pairs);
-    put_text(out, q, b"\r\n")
+    put_end(out, q)
 }
 
 // What stands behind the stamp, and CR LF.

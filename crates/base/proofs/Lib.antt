@@ -1,4 +1,5 @@
 pub mod Lists
 pub mod Numbers
+pub mod Spaced
 pub mod Tables
 pub mod Tests

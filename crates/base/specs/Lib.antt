@@ -1,3 +1,5 @@
 pub mod Decides
 pub mod Limits
+pub mod Spaced
+pub mod Text
 pub mod Wrote

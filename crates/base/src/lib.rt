@@ -1,8 +1,9 @@
-// What every layer shares: the largest offset, one byte widened, one byte or some bytes stored.
+// What every layer shares: the largest offset, one byte widened, bytes stored, the end of a line.
 ghost use mathlib.Core.Path.{_≡_};
 ghost use mathlib.Core.List.{[], _∷_};
 ghost use Prim.Native.Nat.{_+_, _≤_, _<_};
 ghost use lib.ListN.{length};
+ghost use Rattle.base.specs.Text.{cr, lf};
 ghost use Rattle.base.specs.Wrote.{Wrote};
 
 // The largest offset, in microseconds: eleven digits of milliseconds and three of their fraction.
@@ -22,6 +23,25 @@ pub fn put_byte(out: &mut [u8], at: usize, b: u8) -> usize
 {
     out[at] = b;
     at + 1
+}
+
+// Puts three bytes.
+pub fn put_three(out: &mut [u8], at: usize, a: u8, b: u8, c: u8) -> usize
+    requires { ⌜ at + 3 ≤ length (now out) ⌝ }
+    ensures { λ r. ⌜ Wrote (now (out .entry)) (now (out .exit)) at r (a ∷ b ∷ c ∷ []) ⌝ }
+{
+    let p = put_byte(out, at, a);
+    let q = put_byte(out, p, b);
+    put_byte(out, q, c)
+}
+
+// Puts the end of a line, CR LF.
+pub fn put_end(out: &mut [u8], at: usize) -> usize
+    requires { ⌜ at + 2 ≤ length (now out) ⌝ }
+    ensures { λ r. ⌜ Wrote (now (out .entry)) (now (out .exit)) at r (cr ∷ lf ∷ []) ⌝ }
+{
+    let p = put_byte(out, at, b'\r');
+    put_byte(out, p, b'\n')
 }
 
 // Puts some bytes at a position, and gives the position after them.

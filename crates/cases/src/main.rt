@@ -1,7 +1,11 @@
 // Runs the library's functions on either side of every limit. The cases are the lines of `stdin`, which says how they are written. A line that is
 // printed shows what is tried and what comes back. What is printed is compared with `stdout`.
+mod inputs;
 mod reading;
 mod records;
+mod rows;
+mod strings;
+mod time;
 mod writing;
 
 use libc::STDIN_FILENO;
@@ -16,6 +20,7 @@ use testing::shown;
 use testing::text;
 use testing::value;
 ghost use mathlib.Core.Path.{_≡_};
+ghost use Prim.Native.Nat.{_≤_, _<_};
 ghost use lib.ListN.{length};
 
 fn line_space() -> [u8; 800]
@@ -24,16 +29,45 @@ fn line_space() -> [u8; 800]
     [0; 800]
 }
 
+// Room for all of `stdin`.
+fn cases_space() -> [u8; 262144]
+    ensures { λ r. ⌜ 262144 ≡ length r ⌝ }
+{
+    [0; 262144]
+}
+
+// Tries a case of records, if the word is one.
+fn of_records(word: u64, line: &[u8]) -> bool {
+    if records::tried(word, line) {
+        return true;
+    }
+    if rows::tried(word, line) {
+        return true;
+    }
+    writing::tried(word, line)
+}
+
+// Tries a case of numbers, if the word is one.
+fn of_numbers(word: u64, line: &[u8]) -> bool {
+    if strings::tried(word, line) {
+        return true;
+    }
+    time::tried(word, line)
+}
+
 // One case. Its first word says what is tried.
 fn tried(line: &[u8]) {
     let word = key(before(before(line, b' '), b':'));
     if reading::tried(word, line) {
         return;
     }
-    if records::tried(word, line) {
+    if of_records(word, line) {
         return;
     }
-    if writing::tried(word, line) {
+    if of_numbers(word, line) {
+        return;
+    }
+    if inputs::tried(word, line) {
         return;
     }
     text(b" no such case");
@@ -77,19 +111,31 @@ fn cases(line: &[u8], given: &[u8]) {
         return;
     }
     match line[0] {
-        b'/' | b';' => (),
+        b'/' | b'%' => (),
         b'0'..=b'9' => family(line, given),
         _ => case(line, 0, given),
     }
 }
 
-// The cases of all lines. `%` stands for the first of them.
+// Where the text begins that `%` stands for: behind the first byte of the line at a place if that is a `%`, or where it began before.
+fn given_from(s: &[u8], at: usize, before: usize) -> usize
+    requires { ⌜ (at < length (now s)) × (before ≤ length (now s)) ⌝ }
+    ensures { λ r. ⌜ r ≤ length (now (s .entry)) ⌝ }
+{
+    if s[at] == b'%' {
+        return at + 1;
+    }
+    before
+}
+
+// The cases of all lines. A line that begins with `%` says what `%` stands for from there on.
 fn lines(s: &[u8]) {
-    let given = before(s, b'\n');
+    let mut given = 0;
     let mut at = 0;
     while at < s.len() {
         let end = find(s, at, b'\n');
-        cases(&s[at..end], given);
+        given = given_from(s, at, given);
+        cases(&s[at..end], before(&s[given..], b'\n'));
         if s.len() <= end {
             return;
         }
@@ -98,7 +144,7 @@ fn lines(s: &[u8]) {
 }
 
 fn main() {
-    let mut input = io::large_buffer();
+    let mut input = cases_space();
     let got = io::read_full(STDIN_FILENO, &mut input);
     lines(&input[..got]);
 }

@@ -1,6 +1,7 @@
 // Cases of reading: a text as a trace, a line as a row.
 use crate::records::fields;
 use crate::writing::exported;
+use crate::writing::page;
 use crate::writing::written;
 use row_reader::Reading;
 use testing::before;
@@ -70,14 +71,14 @@ fn read_into(s: &[u8], out: &mut [u8], room: usize) {
     }
 }
 
-// Reads a text into the first `room` bytes of an output.
-fn read(s: &[u8], room: u64) {
-    let mut out = [238u8; 100];
-    read_into(s, &mut out, room as usize);
+// Reads a text into the first `room` bytes of a page.
+pub(crate) fn read(s: &[u8], room: usize) {
+    let mut out = page();
+    read_into(s, &mut out, room);
 }
 
 // Reads a text of three rows, writes it again and exports it.
-fn again(s: &[u8], room: u64) {
+fn again(s: &[u8], room: usize) {
     let mut records = [238u8; 60];
     let a = trace::read(s, &mut records);
     match a {
@@ -87,8 +88,8 @@ fn again(s: &[u8], room: u64) {
             rows: _,
             step_back: _,
         } => {
-            written(version, start, &records, room as usize);
-            exported(start, &records, room as usize);
+            written(version, start, &records, room);
+            exported(start, &records, room);
         }
         Outcome::Refused {
             number: _,
@@ -108,19 +109,19 @@ fn row(s: &[u8], version: u64, k: u64) {
 
 // Tries a case of reading, if the word is one. What is read stands behind a colon and a blank.
 pub(crate) fn tried(word: u64, line: &[u8]) -> bool {
-    let a = numbers(before(line, b':'));
+    let a = numbers(before(line, b':'), 2, 2);
     let s = behind(behind(line, b':'), b' ');
     match word {
         READ => {
-            read(s, a[0]);
+            read(s, a[0] as usize);
             true
         }
         CUT => {
-            read(front(s, a[1] as usize), a[0]);
+            read(front(s, a[1] as usize), a[0] as usize);
             true
         }
         AGAIN => {
-            again(s, a[0]);
+            again(s, a[0] as usize);
             true
         }
         ROW => {

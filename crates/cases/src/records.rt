@@ -1,15 +1,19 @@
-// Cases of packing and unpacking one record.
+// Cases of packing and unpacking one record, and the bytes of records that are given in words.
 use libc::STDOUT_FILENO;
 use record::Packed;
 use record::Record;
 use record::Unpacked;
+use testing::before;
+use testing::behind;
 use testing::byte;
 use testing::bytes;
+use testing::find;
 use testing::front;
 use testing::number;
 use testing::numbers;
 use testing::rest;
-ghost use Prim.Native.Nat.{_+_, _≤_};
+ghost use mathlib.Core.Path.{_≡_};
+ghost use Prim.Native.Nat.{_+_, _≤_, _<_};
 ghost use lib.ListN.{length};
 
 // The words `pack` and `unpack`, in their letters.
@@ -37,7 +41,7 @@ pub(crate) fn refused(n: u64, place: u64, out: &[u8]) {
 }
 
 // The seven fields that begin some numbers.
-fn record_of(a: [u64; 9]) -> Record {
+pub(crate) fn record_of(a: [u64; 9]) -> Record {
     Record {
         offset: a[0],
         bus: a[1],
@@ -85,20 +89,70 @@ fn put_word(out: &mut [u8], at: usize, count: usize, n: u64)
     }
 }
 
+// The last 16 bits of the offset, the bus and the kind.
+fn head(r: Record) -> u64
+    ensures { λ n. ⌜ n < 16777216 ⌝ }
+{
+    (r.offset % 65536 * 32 + r.bus % 32) * 8 + r.kind % 8
+}
+
+// The same, extended, the ID, the length and the first six bits of the data.
+fn middle(r: Record) -> u64 {
+    let a = (head(r) * 2 + r.extended % 2) * 536870912 + r.id % 536870912;
+    (a * 16 + r.len % 16) * 64 + r.data / 288230376151711744 % 64
+}
+
 // Puts the bits of a record, well formed or not, and six spare bits. What does not fit its bits is cut off.
-pub(crate) fn put_bits(out: &mut [u8], at: usize, r: Record, spare: u64)
+fn put_bits(out: &mut [u8], at: usize, r: Record, spare: u64)
     requires { ⌜ at + 20 ≤ length (now out) ⌝ }
 {
-    let first = r.offset / 65536 % 4294967296;
-    let a = (r.offset % 65536 * 32 + r.bus % 32) * 8 + r.kind % 8;
-    let b = (a * 2 + r.extended % 2) * 536870912 + r.id % 536870912;
-    let middle = (b * 16 + r.len % 16) * 64 + r.data / 288230376151711744 % 64;
-    let last = r.data % 288230376151711744 * 64 + spare % 64;
     let p = at + 4;
     let q = at + 12;
-    put_word(out, at, 4, first);
-    put_word(out, p, 8, middle);
-    put_word(out, q, 8, last);
+    put_word(out, at, 4, r.offset / 65536);
+    put_word(out, p, 8, middle(r));
+    put_word(out, q, 8, r.data % 288230376151711744 * 64 + spare % 64);
+}
+
+// Puts a record that is given in words as the k-th, from 1.
+fn put_kth(out: &mut [u8], k: usize, s: &[u8]) {
+    if k < 1 {
+        return;
+    }
+    if out.len() / 20 < k {
+        return;
+    }
+    let a = numbers(s, 0, 1);
+    put_bits(out, (k - 1) * 20, record_of(a), a[7]);
+}
+
+// Puts records with semicolons between them.
+fn put_each(out: &mut [u8], s: &[u8]) {
+    let mut k = 0;
+    let mut at = 0;
+    while at < s.len() {
+        let end = find(s, at, b';');
+        k += 1;
+        put_kth(out, k, &s[at..end]);
+        if s.len() <= end {
+            return;
+        }
+        at = end + 1;
+    }
+}
+
+// Bytes whose bits all are ones.
+fn ones() -> [u8; 300]
+    ensures { λ r. ⌜ 300 ≡ length r ⌝ }
+{
+    [255; 300]
+}
+
+// The bytes of the records of a text; what stands behind a bar takes the place of the k-th.
+pub(crate) fn records_of(s: &[u8], k: usize) -> [u8; 300] {
+    let mut out = ones();
+    put_each(&mut out, before(s, b'|'));
+    put_kth(&mut out, k, behind(s, b'|'));
+    out
 }
 
 fn unpacked(s: &[u8]) {
@@ -130,7 +184,7 @@ fn unpack(a: [u64; 9]) {
 
 // Tries a case of one record, if the word is one.
 pub(crate) fn tried(word: u64, line: &[u8]) -> bool {
-    let a = numbers(line);
+    let a = numbers(line, 2, 2);
     match word {
         PACK => {
             pack(record_of(a), a[7] as usize);

@@ -104,8 +104,8 @@ place-few (trace.no-first r) = omega arith
 place-few (trace.no-version b) = omega arith
 place-few (trace.no-second r) = omega (arith, reached-few r)
 place-few (trace.no-start b) = omega (arith, reached-few (b .reached))
-place-few (trace.dollar m b d) = omega (arith, reached-few (b .reached))
-place-few (trace.no-row m b d) = omega (arith, reached-few (b .reached))
+place-few (trace.dollar b m d) = omega (arith, reached-few (b .reached))
+place-few (trace.no-row b m d) = omega (arith, reached-few (b .reached))
 
 -- So the line of a refusal has room.
 refusal-few : {number place : ℕ} → number < 10 → place ≤ inputLimit + 1 → length (refusalText number place) ≤ pageRoom

@@ -1,7 +1,7 @@
 -- The ways through `convert`, over the promises of the functions that it calls.
 use Prim.Native.Nat.{ℕ, _*_, _≤_, _<_}
 use mathlib.Core.Path.{_≡_, refl, ap, _∙_}
-use mathlib.Core.Logic.{_≢_, ⊎-elim}
+use mathlib.Core.Logic.{_≢_}
 use mathlib.Core.List.{List}
 use native.Mathlib.Omega.{arith}
 use lib.ListN.{length, take}
@@ -9,10 +9,12 @@ use Rattle.record.specs.declared.Record.{Record}
 use Rattle.records.specs.Records.{Holds}
 use Rattle.records.proofs.Packing.{packed-length}
 use Rattle.records.proofs.Records.{holds-one, none-malformed}
+use Rattle.row.specs.Versions.{Version}
+use Rattle.row.proofs.EachVersion.{version-low}
 use Rattle.trace.specs.declared.Outcome.the-variants as outcome
 use Rattle.trace.specs.Trace.{Trace, Spells, traceOf}
 use Rattle.trace.specs.Promise.{readNumbers, ReadPromise, Refused}
-use Rattle.trace.specs.House.{Version, Writable}
+use Rattle.trace.specs.House.{Writable}
 use Rattle.trace.proofs.Answers.{not-refused, refused-numbers}
 use Rattle.trace.proofs.There.{read-writable}
 use Rattle.trace_writer.proofs.Again.{Read, read-done}
@@ -35,7 +37,7 @@ refused-input h f p = answered (refused h f) (λ t k s. absurd (not-refused (ome
 
 -- A refusal of the reader has no numbers of an accepted trace.
 not-done : {version : ℕ} → Version version → version ≡ 0 → ⊥
-not-done v e = ⊎-elim (λ w. omega arith) (λ w. omega arith) v
+not-done v e = omega (arith, version-low v)
 
 -- The reader answers 8: the trace is good, and its records have no room.
 pub unheld : {n p page : ℕ} {input records x : List ℕ} → length input ≤ inputLimit

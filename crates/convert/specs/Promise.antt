@@ -3,6 +3,7 @@ use Prim.Native.Nat.{ℕ, _*_, _≤_, _<_}
 use mathlib.Core.Path.{_≡_}
 use mathlib.Core.List.{List, [], _∷_, _++_}
 use lib.ListN.{length, drop}
+use Rattle.base.specs.Text.{text, cr, lf}
 use Rattle.digits.specs.House.{decimalText}
 use Rattle.trace.specs.Trace.{Trace, Spells}
 use Rattle.trace.specs.Promise.{Refused}
@@ -17,8 +18,7 @@ inputLimit = 65536
 -- `refused 7 at line 4` and CR LF.
 unfoldable pub refusalText : ℕ → ℕ → List ℕ
 refusalText number place =
-    (114 ∷ 101 ∷ 102 ∷ 117 ∷ 115 ∷ 101 ∷ 100 ∷ 32 ∷ [])
-    ++ (decimalText number ++ ((32 ∷ 97 ∷ 116 ∷ 32 ∷ 108 ∷ 105 ∷ 110 ∷ 101 ∷ 32 ∷ []) ++ (decimalText place ++ (13 ∷ 10 ∷ []))))
+    text "refused " ++ (decimalText number ++ (text " at line " ++ (decimalText place ++ (cr ∷ lf ∷ []))))
 
 -- What is printed for an input, whatever it is.
 pub data Prints (input : List ℕ) : List ℕ → Type 0 where

@@ -1,4 +1,5 @@
 pub mod ByteDigits
+pub mod ByteTexts
 pub mod House
 pub mod Marks
 pub mod Readers

@@ -1,4 +1,4 @@
--- What the readers' loops keep, and why a byte that is no digit refuses the whole.
+-- What the readers' loops keep, in any base.
 use Prim.Native.Nat.{ℕ, _+_, _*_, _^_, _≤_, _<_}
 use mathlib.Core.Path.{_≡_, refl, ap}
 use mathlib.Core.List.{List}
@@ -10,22 +10,38 @@ use Rattle.digits.specs.declared.Number.{Number}
 use Rattle.digits.specs.declared.Number.the-variants.{Value, Not}
 use Rattle.digits.specs.Answer.{Answers, DigitOr255, digit, none}
 use Rattle.digits.specs.Digits.{HexDigit, Digits}
-use Rattle.digits.proofs.Strings.{System, snoc, within, hex}
+use Rattle.digits.specs.Digits.{none as empty}
+use Rattle.digits.proofs.Strings.{System, snoc, each, within, hex}
 
-module _ {D : ℕ → ℕ → Type 0} {b : ℕ} where
-  -- one byte more is read
-  pub next : {n : ℕ} (s : List ℕ) (i d : ℕ) → Digits D b (take i s) n → i < length s → D (getD s i 0) d → Digits D b (take (i + 1) s) (n * b + d)
-  next s i d r h p = rw (add-one, take-suc s i 0 h) (snoc r p)
+-- What a loop over at most `most` digits keeps: the bytes before place i are the digits of n.
+pub record Passed (D : ℕ → ℕ → Type 0) (b most : ℕ) (s : List ℕ) (n i : ℕ) : Type 0 where
+  pub within : i ≤ length s
+  pub few : length s ≤ most
+  pub digits : Digits D b (take i s) n
 
-  -- all are read
-  pub whole : {n : ℕ} (s : List ℕ) (i : ℕ) → Digits D b (take i s) n → i ≤ length s → length s ≤ i → Digits D b s n
-  whole s i r p q =
-      let e : i ≡ length s = omega arith in
-      rw (e, take-length) at r
+module _ {D : ℕ → ℕ → Type 0} {b most : ℕ} where
+  pub none-passed : (s : List ℕ) → length s ≤ most → Passed D b most s 0 0
+  none-passed s h = record { within = omega arith; few = h; digits = empty }
 
-  -- what is read so far is bounded by any width from its own on
-  pub so-far : System D b → {n : ℕ} (w : ℕ) (s : List ℕ) (i : ℕ) → 0 < b → Digits D b (take i s) n → i ≤ length s → i ≤ w → n < b ^ w
-  so-far y w s i z r p q = within y w z r (rw (length-take-le i s p) q)
+  module _ {s : List ℕ} {n i : ℕ} (p : Passed D b most s n i) where
+    pub one-passed : {d : ℕ} → i < length s → D (getD s i 0) d → Passed D b most s (n * b + d) (i + 1)
+    one-passed h q = record { within = omega arith; few = p .few; digits = rw (add-one, take-suc s i 0 h) (snoc (p .digits) q) }
+
+    -- a byte that is no digit refuses the whole
+    pub stopped : {m : ℕ} → i < length s → ((d : ℕ) → D (getD s i 0) d → ⊥) → Digits D b s m → ⊥
+    stopped h f r = let q = each r i h in f (q .0) (q .1)
+
+    pub all-passed : length s ≤ i → Digits D b s n
+    all-passed h =
+        let l = p .within in
+        let e : i ≡ length s = omega arith in
+        rw (e, take-length) at (p .digits)
+
+    -- one digit more fits where so many do
+    pub room : System D b → (w : ℕ) → 0 < b → most ≤ w + 1 → i < length s → n < b ^ w
+    room y w z h l =
+        let f = p .few in
+        within y w z (p .digits) (rw (length-take-le i s (p .within)) (omega arith))
 
 -- what the one byte's answer says, by its size
 pub is-digit : {x r : ℕ} → DigitOr255 x r → r < 16 → HexDigit x r

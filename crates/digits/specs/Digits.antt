@@ -1,14 +1,15 @@
 -- Numbers as digit strings: relations between a number and the bytes that spell it.
 use Prim.Native.Nat.{ℕ, _+_, _*_, _^_, _≤_, _<_}
+use Prim.Native.Char.{code}
 use mathlib.Core.Path.{_≡_}
 use mathlib.Core.Logic.{_≢_}
 use mathlib.Core.List.{List, [], _∷_}
 use lib.ListN.{length, getD}
 
--- The byte x is the decimal digit d: `0` is byte 48.
+-- The byte x is the decimal digit d.
 pub record DecimalDigit (x d : ℕ) : Type 0 where
   pub value : d < 10
-  pub byte : x ≡ 48 + d
+  pub byte : x ≡ code "0" + d
 
 -- The byte x is the letter for the digit d, ten to fifteen, where `ten` is the byte of the letter for ten.
 pub record LetterDigit (ten x d : ℕ) : Type 0 where
@@ -16,15 +17,15 @@ pub record LetterDigit (ten x d : ℕ) : Type 0 where
   pub high : d < 16
   pub byte : x + 10 ≡ ten + d
 
--- A hexadecimal digit in one letter case: `A` is byte 65, `a` is byte 97.
+-- A hexadecimal digit in one letter case.
 pub data CasedDigit (ten x d : ℕ) : Type 0 where
   figure : DecimalDigit x d → CasedDigit ten x d
   letter : LetterDigit ten x d → CasedDigit ten x d
 
 -- A hexadecimal digit in either letter case.
 pub data HexDigit (x d : ℕ) : Type 0 where
-  capital : CasedDigit 65 x d → HexDigit x d
-  small : CasedDigit 97 x d → HexDigit x d
+  capital : CasedDigit (code "A") x d → HexDigit x d
+  small : CasedDigit (code "a") x d → HexDigit x d
 
 -- The byte x is some hexadecimal digit.
 abbrev pub IsHex : ℕ → Type 0
@@ -40,7 +41,7 @@ pub data Digits (D : ℕ → ℕ → Type 0) (b : ℕ) : List ℕ → ℕ → Ty
 pub record Decimal (n : ℕ) (s : List ℕ) : Type 0 where
   pub digits : Digits DecimalDigit 10 s n
   pub some : 0 < length s
-  pub lead : 1 < length s → getD s 0 0 ≢ 48
+  pub lead : 1 < length s → getD s 0 0 ≢ code "0"
 
 -- A decimal number of exactly w digits, zeros kept.
 pub record Padded (w n : ℕ) (s : List ℕ) : Type 0 where

@@ -1,5 +1,6 @@
 -- The spelling that is written: the house's one text for a number.
 use Prim.Native.Nat.{ℕ, zero, suc, _+_, _*_, _-_, _/_, _%_, _≤_, _<_}
+use Prim.Native.Char.{code}
 use mathlib.Core.Path.{_≡_}
 use mathlib.Core.Bool.{true, false}
 use mathlib.Core.List.{List, [], _∷_, _++_}
@@ -10,16 +11,16 @@ use Rattle.digits.specs.declared.Letters.the-variants.{Capital, Small}
 
 -- The byte of a decimal digit.
 abbrev pub figureOf : ℕ → ℕ
-figureOf d = 48 + d
+figureOf d = code "0" + d
 
 -- The byte of the letter for ten.
 abbrev pub tenOf : Letters → ℕ
-tenOf Capital = 65
-tenOf Small = 97
+tenOf Capital = code "A"
+tenOf Small = code "a"
 
 -- The byte of a hexadecimal digit.
 unfoldable pub glyphOf : Letters → ℕ → ℕ
-glyphOf c d = elim (ltb d 10) [ true ↦ 48 + d | false ↦ tenOf c + (d - 10) ]
+glyphOf c d = elim (ltb d 10) [ true ↦ figureOf d | false ↦ tenOf c + (d - 10) ]
 
 -- The two digits of each byte, one pair behind the other.
 pub record PairsOf (c : Letters) (t : List ℕ) : Type 0 where
@@ -40,10 +41,15 @@ paddedText w n = fixed figureOf 10 w n
 abbrev pub hexText : Letters → ℕ → ℕ → List ℕ
 hexText c w n = fixed (glyphOf c) 16 w n
 
+-- n bytes of a number, the first of them with this place value, each in two digits.
+unfoldable pub byteTexts : Letters → ℕ → ℕ → ℕ → List (List ℕ)
+byteTexts letters place zero sum = []
+byteTexts letters place (suc n) sum = hexText letters 2 (sum / place % 256) ∷ byteTexts letters (place / 256) n sum
+
 -- n in decimal without leading zeros, if it has at most k + 1 digits.
 unfoldable pub spell : ℕ → ℕ → List ℕ
-spell zero n = (48 + n) ∷ []
-spell (suc k) n = elim (ltb n 10) [ true ↦ (48 + n) ∷ [] | false ↦ spell k (n / 10) ++ ((48 + n % 10) ∷ []) ]
+spell zero n = figureOf n ∷ []
+spell (suc k) n = elim (ltb n 10) [ true ↦ figureOf n ∷ [] | false ↦ spell k (n / 10) ++ (figureOf (n % 10) ∷ []) ]
 
 -- n in decimal without leading zeros, whatever its length: n is never less than its number of digits less one.
 unfoldable pub decimalText : ℕ → List ℕ

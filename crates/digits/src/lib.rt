@@ -1,14 +1,19 @@
 // Numbers as digit strings: read from bytes, and written as the house spells them.
 use base::put_text;
+use base::put_three;
 use base::wide;
 ghost use mathlib.Core.Path.{_≡_};
-ghost use Prim.Native.Nat.{_+_, _≤_, _<_};
+ghost use mathlib.Core.List.{_∷_};
+ghost use Prim.Native.Nat.{_+_, _*_, _^_, _≤_, _<_};
 ghost use lib.ListN.{length, take};
 ghost use Rattle.base.specs.Decides.{Decides};
+ghost use Rattle.base.specs.Spaced.{spaced};
+ghost use Rattle.base.specs.Text.{blank};
 ghost use Rattle.base.specs.Wrote.{Wrote};
+ghost use Rattle.digits.specs.declared.Letters.{Letters};
 ghost use Rattle.digits.specs.Answer.{Answers, DigitOr255, ReadDecimal, ReadPadded, ReadHex};
 ghost use Rattle.digits.specs.Digits.{HexDigit, IsHex};
-ghost use Rattle.digits.specs.House.{glyphOf, PairsOf, paddedText, hexText, decimalText, Kept};
+ghost use Rattle.digits.specs.House.{glyphOf, PairsOf, paddedText, hexText, decimalText, Kept, byteTexts};
 
 pub enum Number {
     Value(u64),
@@ -29,13 +34,13 @@ const HEX_DIGITS: u64 = 0x7E_0000_007E_03FF;
 pub fn is_hex(b: u8) -> bool
     ensures { λ r. ⌜ Decides (IsHex b) r ⌝ }
 {
-    if b < 48 {
+    if b < b'0' {
         return false;
     }
-    if 102 < b {
+    if b'f' < b {
         return false;
     }
-    if (HEX_DIGITS >> (b - 48) as u64) % 2 == 0 {
+    if (HEX_DIGITS >> (b - b'0') as u64) % 2 == 0 {
         return false;
     }
     true
@@ -71,13 +76,13 @@ pub fn read_padded(s: &[u8]) -> Number
     let mut i = 0;
     while i < s.len() {
         let b = s[i];
-        if b < 48 {
+        if b < b'0' {
             return Number::Not;
         }
-        if 57 < b {
+        if b'9' < b {
             return Number::Not;
         }
-        n = n * 10 + wide(b - 48);
+        n = n * 10 + wide(b - b'0');
         i += 1;
     }
     Number::Value(n)
@@ -90,7 +95,7 @@ pub fn read_decimal(s: &[u8]) -> Number
     if s.len() == 0 {
         return Number::Not;
     }
-    if s[0] == 48 {
+    if s[0] == b'0' {
         if 1 < s.len() {
             return Number::Not;
         }
@@ -161,11 +166,11 @@ pub fn put_decimal(out: &mut [u8], at: usize, n: u64) -> usize
     ensures { λ r. ⌜ Wrote (now (out .entry)) (now (out .exit)) at r (decimalText n) ⌝ }
 {
     if n < 10 {
-        out[at] = 48 + n as u8;
+        out[at] = b'0' + n as u8;
         return at + 1;
     }
     let p = put_decimal(out, at, n / 10);
-    out[p] = 48 + (n % 10) as u8;
+    out[p] = b'0' + (n % 10) as u8;
     p + 1
 }
 
@@ -180,7 +185,7 @@ pub fn put_padded(out: &mut [u8], at: usize, w: usize, n: u64) -> usize
     let mut i = w;
     while 0 < i {
         i -= 1;
-        out[at + i] = 48 + (m % 10) as u8;
+        out[at + i] = b'0' + (m % 10) as u8;
         m /= 10;
     }
     at + w
@@ -206,11 +211,11 @@ pub fn put_kept(
         return put_text(out, at, &bytes[..digits]);
     }
     if n < 10 {
-        out[at] = 48 + n as u8;
+        out[at] = b'0' + n as u8;
         return at + 1;
     }
     let q = put_kept(out, at, n / 10, known, kept, digits);
-    out[q] = 48 + (n % 10) as u8;
+    out[q] = b'0' + (n % 10) as u8;
     q + 1
 }
 
@@ -232,11 +237,11 @@ fn glyph(letters: Letters, d: u8) -> u8
     ensures { λ r. ⌜ r ≡ glyphOf letters d ⌝ }
 {
     if d < 10 {
-        return 48 + d;
+        return b'0' + d;
     }
     match letters {
-        Letters::Capital => 65 + (d - 10),
-        Letters::Small => 97 + (d - 10),
+        Letters::Capital => b'A' + (d - 10),
+        Letters::Small => b'a' + (d - 10),
     }
 }
 
@@ -275,4 +280,28 @@ pub fn put_hex(out: &mut [u8], at: usize, w: usize, n: u64, letters: Letters) ->
         m /= 16;
     }
     at + w
+}
+
+// One byte behind one blank, from the table of pairs: the calls of `put_hex` for each digit would double the time that a row takes.
+fn put_pair(out: &mut [u8], at: usize, b: u64, pairs: &[u8; 512]) -> usize
+    requires { ⌜ (b < 256) × (at + 3 ≤ length (now out)) ⌝ }
+    ensures { λ r. ⌜ ((x : Letters) → PairsOf x (now (pairs .entry)) → Wrote (now (out .entry)) (now (out .exit)) at r (blank ∷ hexText x 2 b)) ⌝ }
+    ensures { λ r. ⌜ r ≡ at + 3 ⌝ }
+{
+    let i = 2 * b as usize;
+    put_three(out, at, 32, pairs[i], pairs[i + 1])
+}
+
+// The first n of the eight bytes of a word, each behind one blank, in the letter case of the table of pairs.
+pub fn put_pairs(out: &mut [u8], at: usize, n: u64, word: u64, pairs: &[u8; 512]) -> usize
+    requires { ⌜ (n ≤ 8) × (at + 3 * n ≤ length (now out)) ⌝ }
+    ensures { λ r. ⌜ ((x : Letters) → PairsOf x (now (pairs .entry)) → Wrote (now (out .entry)) (now (out .exit)) at r (spaced (byteTexts x (256 ^ 7) n word))) ⌝ }
+{
+    let mut p = at;
+    let mut j: u64 = 1;
+    while j <= n {
+        p = put_pair(out, p, (word >> (64 - 8 * j)) % 256, pairs);
+        j += 1;
+    }
+    p
 }

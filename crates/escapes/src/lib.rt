@@ -45,9 +45,9 @@ pub fn ended(begun: u64, b: u8) -> u8
     match begun {
         NOTHING => b,
         BACKSLASH => match b {
-            b'r' => 13,
-            b'n' => 10,
-            b't' => 9,
+            b'r' => b'\r',
+            b'n' => b'\n',
+            b't' => b'\t',
             _ => b,
         },
         _ => ((begun % 256 + wide(hex_digit(b))) % 256) as u8,

@@ -1,5 +1,5 @@
 -- The fields of digits: what any such field has, the scan has found; and what the scan has found is such a field.
-use Prim.Native.Nat.{ℕ, suc, _+_, _*_, _-_, _^_, _≤_, _<_}
+use Prim.Native.Nat.{ℕ, _+_, _*_, _-_, _^_, _≤_, _<_}
 use mathlib.Core.Path.{_≡_, refl, ap, sym, _∙_}
 use mathlib.Core.Logic.{_≢_, inl, inr}
 use mathlib.Core.List.{List, [], _∷_, _++_, append-assoc}
@@ -9,8 +9,8 @@ use native.Mathlib.Omega.{arith}
 use native.Mathlib.Decide.{ℕ-discrete}
 use lib.Arith.{digits-lt}
 use lib.Pow.{pow-add}
-use lib.ListN.{length, getD, drop, length-drop, List·getD-append}
-use lib.Seq.{slice, length-slice, drop-cons, getD-drop}
+use lib.ListN.{length, getD, drop, List·getD-append}
+use lib.Seq.{slice, length-slice, getD-drop}
 use Rattle.base.specs.Limits.{offsetLimit}
 use Rattle.base.proofs.Lists.{slice-snoc, cut}
 use Rattle.digits.specs.Digits.{DecimalDigit, HexDigit, Digits, Decimal}
@@ -22,17 +22,9 @@ use Rattle.fields.specs.Runs.{All, empty, more, Stops, over, halt}
 use Rattle.fields.specs.Columns.{NumberField, OffsetField, BusField}
 use Rattle.fields.specs.Window.{Solid, Lined, FieldAt, Scanned, Takes, taken, HexField}
 use Rattle.fields.proofs.Runs.{all-map, all-append}
-use Rattle.fields.proofs.Window.{End, inside, next-lined, slice-drop, no-stop, field-of}
+use Rattle.fields.proofs.Window.{End, head-at, inside, next-lined, slice-drop, no-stop, field-of}
 use Rattle.fields.proofs.Digits.{below-zero}
 use Rattle.fields.proofs.Scans.{Some, digits-all, decimal-solid, hex-solid, scan-one}
-
--- The first byte of what stands at a place, and what is behind it.
-pub head : (w : List ℕ) (e : ℕ) {x : ℕ} {u : List ℕ} → drop e w ≡ x ∷ u → (getD w e 0 ≡ x) × (drop (e + 1) w ≡ u)
-head w e {x} {u} h =
-    let l : e < length w = omega (arith, ap length h, length-drop e w) in
-    let q : getD w e 0 ∷ drop (suc e) w ≡ x ∷ u = sym (drop-cons w e 0 l) ∙ h in
-    let t : drop (suc e) w ≡ u = cc in
-    (cc, rw add-one t)
 
 -- A byte that is no CR has the line go on behind it.
 pub goes-on : (w : List ℕ) (e x : ℕ) → Lined (drop e w) → getD w e 0 ≡ x → 13 < x → Lined (drop (e + 1) w)
@@ -152,12 +144,12 @@ number-shape {w} {at} {k} {s} {f} {rest} c a p =
     let n = p .spelled .some in
     let o = found decimal c (41 ∷ rest) (p .spelled .digits) (omega arith) (halt (λ q. below-zero {x = 41} (omega arith) (q .0) (q .1)))
     (spread (p .digits) (41 ∷ []) a (p .bytes)) in
-    let h = head w (s .end) (o .behind) in
+    let h = head-at w (s .end) (o .behind) in
     record {
       some = omega arith;
       few = omega arith;
-      mark = h .0;
-      stop = ended w (s .end + 1) (goes-on w (s .end) 41 (c .lined) (h .0) (omega arith)) (rw (h .1) (a .stops));
+      mark = h .1;
+      stop = ended w (s .end + 1) (goes-on w (s .end) 41 (c .lined) (h .1) (omega arith)) (rw (h .2) (a .stops));
     }
 
 pub number-accept : {w : List ℕ} {at : ℕ} {s : Scan} → Scanned DecimalDigit 10 12 w at s → getD w at 0 ≢ 48 → NumberShape w at s
@@ -245,15 +237,15 @@ offset-shape {w} {at} {digits} {v} {s} {f} {rest} m c a p =
     let g = spread (p .whole) (46 ∷ p .part) a (p .bytes) in
     let o = found decimal c (46 ∷ (p .part ++ rest)) (p .first .digits) (omega arith)
     (halt (λ q. below-zero {x = 46} (omega arith) (q .0) (q .1))) g in
-    let h = head w (s .end) (o .behind) in
+    let h = head-at w (s .end) (o .behind) in
     let e = first w at (p .whole) (46 ∷ (p .part ++ rest)) g n in
     record {
       some = omega arith;
       few = omega arith;
       lead = λ l q. p .first .lead (omega arith) (sym e ∙ q);
-      point = h .0;
+      point = h .1;
       tail = λ {t} d.
-          let x = found decimal d rest (p .second .digits) (omega arith) (digit-stops decimal-solid (a .stops)) (h .1) in
+          let x = found decimal d rest (p .second .digits) (omega arith) (digit-stops decimal-solid (a .stops)) (h .2) in
           record { width = omega arith; stop = ended w (t .end) (d .lined) (rw (x .behind) (a .stops)) };
     }
 

@@ -16,6 +16,14 @@ use Rattle.fields.proofs.Runs.{cut}
 abbrev pub End : ℕ → Type 0
 End b = (b ≡ 32) ⊎ (b ≡ 13)
 
+-- The byte that stands behind a place, and what is behind it.
+pub head-at : (s : List ℕ) (i : ℕ) {b : ℕ} {t : List ℕ} → drop i s ≡ b ∷ t
+    → (i < length s) × (getD s i 0 ≡ b) × (drop (i + 1) s ≡ t)
+head-at s i {b} {t} e =
+    let h : i < length s = omega (arith, ap length e, length-drop i s) in
+    let d : getD s i 0 ∷ drop (suc i) s ≡ b ∷ t = sym (drop-cons s i 0 h) ∙ e in
+    (h, cc, rw add-one (cc))
+
 -- A CR stands inside the window.
 pub inside : (w : List ℕ) (at : ℕ) → Lined (drop at w) → at < length w
 inside w at l = omega (arith, ap length (l .is .ended) ∙ length-append (l .line) (13 ∷ l .is .rest), length-drop at w)

@@ -1,10 +1,13 @@
 -- The columns of a row, one by one: a relation between a value and the bytes of its field.
 use Prim.Native.Nat.{ℕ, _+_, _*_, _-_, _^_, _≤_}
+use Prim.Native.Char.{code}
 use mathlib.Core.Path.{_≡_}
 use mathlib.Core.List.{List, [], _∷_, _++_}
 use lib.ListN.{length}
 use Rattle.base.specs.Limits.{offsetLimit}
+use Rattle.base.specs.Text.{text, bracket, point}
 use Rattle.digits.specs.Digits.{Decimal, Padded, Hex}
+use Rattle.digits.specs.House.{figureOf}
 
 -- The largest row number.
 abbrev pub lastNumber : ℕ
@@ -13,7 +16,7 @@ lastNumber = 999999
 -- Row number and `)`, with nothing between: 1 to 999,999, no leading zero.
 pub record NumberField (k : ℕ) (f : List ℕ) : Type 0 where
   pub digits : List ℕ
-  pub bytes : f ≡ digits ++ (41 ∷ [])
+  pub bytes : f ≡ digits ++ (bracket ∷ [])
   pub spelled : Decimal k digits
   pub low : 1 ≤ k
   pub high : k ≤ lastNumber
@@ -23,7 +26,7 @@ pub record NumberField (k : ℕ) (f : List ℕ) : Type 0 where
 pub record OffsetField (w offset : ℕ) (f : List ℕ) : Type 0 where
   pub whole : List ℕ
   pub part : List ℕ
-  pub bytes : f ≡ whole ++ (46 ∷ part)
+  pub bytes : f ≡ whole ++ (point ∷ part)
   pub ms : ℕ
   pub fraction : ℕ
   pub first : Decimal ms whole
@@ -40,20 +43,20 @@ pub record BusField (bus : ℕ) (f : List ℕ) : Type 0 where
 
 -- `Rx`, `Tx`, `Warng` and `Error`, spelled exactly.
 abbrev pub markRx : List ℕ
-markRx = 82 ∷ 120 ∷ []
+markRx = text "Rx"
 
 abbrev pub markTx : List ℕ
-markTx = 84 ∷ 120 ∷ []
+markTx = text "Tx"
 
 abbrev pub markWarng : List ℕ
-markWarng = 87 ∷ 97 ∷ 114 ∷ 110 ∷ 103 ∷ []
+markWarng = text "Warng"
 
 abbrev pub markError : List ℕ
-markError = 69 ∷ 114 ∷ 114 ∷ 111 ∷ 114 ∷ []
+markError = text "Error"
 
 -- The one field of a remote frame's data: `RTR`.
 abbrev pub remoteText : List ℕ
-remoteText = 82 ∷ 84 ∷ 82 ∷ []
+remoteText = text "RTR"
 
 -- The ID of a frame: four digits up to 07FF, or eight, the extended form, up to 1FFFFFFF.
 pub data IdField (extended id : ℕ) (f : List ℕ) : Type 0 where
@@ -63,9 +66,9 @@ pub data IdField (extended id : ℕ) (f : List ℕ) : Type 0 where
 -- Length, one digit 0 to 8.
 pub record LengthField (len : ℕ) (f : List ℕ) : Type 0 where
   pub small : len ≤ 8
-  pub spelled : f ≡ (48 + len) ∷ []
+  pub spelled : f ≡ figureOf len ∷ []
 
 -- A capital letter A to Z: a warning's words have no other byte.
 pub record Capital (b : ℕ) : Type 0 where
-  pub low : 65 ≤ b
-  pub high : b ≤ 90
+  pub low : code "A" ≤ b
+  pub high : b ≤ code "Z"

@@ -5,6 +5,7 @@ use mathlib.Core.Logic.{_≢_}
 use mathlib.Core.List.{List, _∷_, _++_}
 use lib.ListN.{length, getD, drop}
 use lib.Seq.{slice}
+use Rattle.base.specs.Text.{blank, cr}
 use Rattle.digits.specs.Digits.{Digits, Hex}
 use Rattle.fields.specs.declared.Scan.{Scan}
 use Rattle.fields.specs.Runs.{All, Stops}
@@ -16,18 +17,18 @@ windowBytes = 4096
 
 -- A byte of a line.
 abbrev pub NoEnd : ℕ → Type 0
-NoEnd b = b ≢ 13
+NoEnd b = b ≢ cr
 
 -- A byte of a field.
 pub record Solid (b : ℕ) : Type 0 where
-  pub blank : b ≢ 32
-  pub end : b ≢ 13
+  pub blank : b ≢ blank
+  pub end : b ≢ cr
 
 -- The bytes before the first CR of s.
 pub record LineOf (line s : List ℕ) : Type 0 where
   pub rest : List ℕ
   pub plain : All NoEnd line
-  pub ended : s ≡ line ++ (13 ∷ rest)
+  pub ended : s ≡ line ++ (cr ∷ rest)
 
 -- A CR stands in s.
 pub record Lined (s : List ℕ) : Type 0 where
@@ -37,8 +38,8 @@ pub record Lined (s : List ℕ) : Type 0 where
 -- The blanks from `at` on end at a.
 pub record Skipped (w : List ℕ) (at a : ℕ) : Type 0 where
   pub from : at ≤ a
-  pub blanks : All (λ b. b ≡ 32) (slice at a w)
-  pub stop : getD w a 0 ≢ 32
+  pub blanks : All (λ b. b ≡ blank) (slice at a w)
+  pub stop : getD w a 0 ≢ blank
   pub lined : Lined (drop a w)
 
 -- The field f stands at the start of s, and rest behind it.

@@ -9,6 +9,7 @@ ghost use mathlib.Core.List.{[], _∷_};
 ghost use Prim.Native.Nat.{_<_};
 ghost use lib.ListN.{length, getD, drop};
 ghost use Rattle.base.specs.Decides.{Decides};
+ghost use Rattle.base.specs.Text.{text, blank, cr};
 ghost use Rattle.digits.specs.Digits.{DecimalDigit, HexDigit, Hex};
 ghost use Rattle.fields.specs.Runs.{All};
 ghost use Rattle.fields.specs.Columns.{NumberField, OffsetField, BusField, LengthField, Capital, remoteText};
@@ -26,12 +27,12 @@ pub struct Scan {
 
 // Whether a field ends before this byte: a blank, or the CR behind the line.
 pub fn ends(b: u8) -> bool
-    ensures { λ r. ⌜ Decides ((b ≡ 32) ⊎ (b ≡ 13)) r ⌝ }
+    ensures { λ r. ⌜ Decides ((b ≡ blank) ⊎ (b ≡ cr)) r ⌝ }
 {
-    if b == 32 {
+    if b == b' ' {
         return true;
     }
-    b == 13
+    b == b'\r'
 }
 
 // The place behind the blanks. Most gaps are one blank: they are passed before the loop.
@@ -49,15 +50,15 @@ fn skip(s: &[u8], at: usize) -> usize
     ensures { λ a. ⌜ Skipped (now (s .entry)) at a ⌝ }
     ensures { λ a. ⌜ a < length (now (s .entry)) ⌝ }
 {
-    if s[at] != 32 {
+    if s[at] != b' ' {
         return at;
     }
     let mut a = at + 1;
-    if s[a] != 32 {
+    if s[a] != b' ' {
         return a;
     }
     a += 1;
-    while s[a] == 32 {
+    while s[a] == b' ' {
         a += 1;
     }
     a
@@ -66,10 +67,10 @@ fn skip(s: &[u8], at: usize) -> usize
 // Whether the line ends here.
 pub fn at_end(w: &[u8; WINDOW], a: usize) -> bool
     requires { ⌜ Lined (drop a (now w)) ⌝ }
-    ensures { λ b. ⌜ Decides (getD (now (w .entry)) a 0 ≡ 13) b ⌝ }
+    ensures { λ b. ⌜ Decides (getD (now (w .entry)) a 0 ≡ cr) b ⌝ }
 {
     let bytes: &[u8] = w;
-    bytes[a] == 13
+    bytes[a] == b'\r'
 }
 
 // No such field.
@@ -125,7 +126,7 @@ pub fn number_field(w: &[u8; WINDOW], at: usize) -> Scan
     ensures { λ s. ⌜ Takes NumberField (now (w .entry)) at s ⌝ }
 {
     let bytes: &[u8] = w;
-    if bytes[at] == 48 {
+    if bytes[at] == b'0' {
         return none();
     }
     let s = decimal(w, at);
@@ -136,7 +137,7 @@ pub fn number_field(w: &[u8; WINDOW], at: usize) -> Scan
     if at + 6 < e {
         return none();
     }
-    if bytes[e] != 41 {
+    if bytes[e] != b')' {
         return none();
     }
     if !ends(bytes[e + 1]) {
@@ -163,12 +164,12 @@ pub fn offset_field(w: &[u8; WINDOW], at: usize, digits: usize) -> Scan
     if at + 11 < e {
         return none();
     }
-    if bytes[at] == 48 {
+    if bytes[at] == b'0' {
         if at + 1 < e {
             return none();
         }
     }
-    if bytes[e] != 46 {
+    if bytes[e] != b'.' {
         return none();
     }
     let t = decimal(w, e + 1);
@@ -197,7 +198,7 @@ pub fn bus_field(w: &[u8; WINDOW], at: usize) -> Scan
     ensures { λ s. ⌜ Takes BusField (now (w .entry)) at s ⌝ }
 {
     let bytes: &[u8] = w;
-    if bytes[at] == 48 {
+    if bytes[at] == b'0' {
         return none();
     }
     let s = decimal(w, at);
@@ -220,10 +221,10 @@ pub fn bus_field(w: &[u8; WINDOW], at: usize) -> Scan
 // A mark that starts with this byte and goes on with `x`.
 fn short_mark(w: &[u8; WINDOW], at: usize, value: u64) -> Scan
     requires { ⌜ Starts (now w) at ⌝ }
-    ensures { λ s. ⌜ Takes (λ v f. (f ≡ getD (now (w .entry)) at 0 ∷ 120 ∷ []) × (v ≡ value)) (now (w .entry)) at s ⌝ }
+    ensures { λ s. ⌜ Takes (λ v f. (f ≡ getD (now (w .entry)) at 0 ∷ text "x") × (v ≡ value)) (now (w .entry)) at s ⌝ }
 {
     let bytes: &[u8] = w;
-    if bytes[at + 1] != 120 {
+    if bytes[at + 1] != b'x' {
         return none();
     }
     if !ends(bytes[at + 2]) {
@@ -264,9 +265,9 @@ pub fn mark_field(w: &[u8; WINDOW], at: usize) -> Scan
     let bytes: &[u8] = w;
     let m = bytes[at];
     match m {
-        82 | 84 => short_mark(w, at, wide((m - 82) / 2)),
-        87 => long_mark(w, at, 97, 114, 110, 103, 2),
-        69 => long_mark(w, at, 114, 114, 111, 114, 3),
+        b'R' | b'T' => short_mark(w, at, wide((m - b'R') / 2)),
+        b'W' => long_mark(w, at, b'a', b'r', b'n', b'g', 2),
+        b'E' => long_mark(w, at, b'r', b'r', b'o', b'r', 3),
         _ => none(),
     }
 }
@@ -301,10 +302,10 @@ pub fn length_field(w: &[u8; WINDOW], at: usize) -> Scan
 {
     let bytes: &[u8] = w;
     let b = bytes[at];
-    if b < 48 {
+    if b < b'0' {
         return none();
     }
-    if 56 < b {
+    if b'8' < b {
         return none();
     }
     if !ends(bytes[at + 1]) {
@@ -312,7 +313,7 @@ pub fn length_field(w: &[u8; WINDOW], at: usize) -> Scan
     }
     Scan {
         end: at + 1,
-        value: wide(b - 48),
+        value: wide(b - b'0'),
     }
 }
 
@@ -343,13 +344,13 @@ pub fn remote_field(w: &[u8; WINDOW], at: usize) -> Scan
     ensures { λ s. ⌜ Takes (λ v f. f ≡ remoteText) (now (w .entry)) at s ⌝ }
 {
     let bytes: &[u8] = w;
-    if bytes[at] != 82 {
+    if bytes[at] != b'R' {
         return none();
     }
-    if bytes[at + 1] != 84 {
+    if bytes[at + 1] != b'T' {
         return none();
     }
-    if bytes[at + 2] != 82 {
+    if bytes[at + 2] != b'R' {
         return none();
     }
     if !ends(bytes[at + 3]) {
@@ -369,10 +370,10 @@ pub fn word_field(w: &[u8; WINDOW], at: usize) -> Scan
     let bytes: &[u8] = w;
     let mut i = at;
     while !ends(bytes[i]) {
-        if bytes[i] < 65 {
+        if bytes[i] < b'A' {
             return none();
         }
-        if 90 < bytes[i] {
+        if b'Z' < bytes[i] {
             return none();
         }
         i += 1;

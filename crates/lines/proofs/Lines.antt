@@ -1,5 +1,5 @@
 -- Laws on the lines themselves: what the tests of a reader show, and what each refusal rules out.
-use Prim.Native.Nat.{ℕ, _+_, _^_, _≤_, _<_}
+use Prim.Native.Nat.{ℕ, _+_, _/_, _%_, _^_, _≤_, _<_}
 use mathlib.Core.Path.{_≡_, refl, ap, sym, _∙_}
 use mathlib.Core.Logic.{_≢_}
 use mathlib.Core.List.{List, [], _∷_, _++_}
@@ -13,12 +13,14 @@ use Rattle.clock.specs.Start.{Start}
 use Rattle.clock.proofs.Starts.{one-start}
 use Rattle.fields.specs.Runs.{empty, more, Stops, over, halt}
 use Rattle.fields.proofs.Scans.{digits-all}
+use Rattle.fields.proofs.Window.{head-at}
 use Rattle.lines.specs.declared.StartTime.{StartTime}
 use Rattle.lines.specs.declared.StartTime.the-variants.{Ms, Not}
-use Rattle.lines.specs.Lines.{Inside, FirstLine, Blanks, VersionText, one, two, VersionLine, startText, StartLine, NoDollar, nothing, other, Comment, DollarLine}
-use Rattle.lines.specs.Answer.{StartOr}
-use Rattle.lines.specs.Parts.{Blank, Digit, Ran, Opened, OpenedOr0, Stands, StartDigits, StartOfDigits}
-use Rattle.lines.proofs.Scans.{run-one, split, head-at, at-head, behind, not-opened, opened-one, below-zero}
+use Rattle.lines.specs.Lines.{Inside, FirstLine, Blanks, VersionLine, startText, StartDigits, StartLine, NoDollar, nothing, other, Comment, DollarLine}
+use Rattle.lines.specs.Answer.{StartOr, VersionOr0, version, none}
+use Rattle.lines.specs.Parts.{Blank, Digit, Ran, Opened, OpenedOr0, Stands, StartOfDigits, Figures, FiguresOr0, figures, no-figures}
+use Rattle.lines.proofs.Scans.{run-one, split, at-head, behind, not-opened, opened-one, below-zero}
+use Rattle.row.specs.Versions.{versionText}
 
 -- CR is not inside a line, nor LF.
 pub cr-outside : {b : ℕ} → b ≡ 13 → Inside b → ⊥
@@ -80,88 +82,63 @@ module _ {line : List ℕ} {at : ℕ} (o : Opened line at) where
     blanks = o .blanks;
   }
 
--- `$FILEVERSION=1.`
-abbrev pub versionText : List ℕ
-versionText = 36 ∷ 70 ∷ 73 ∷ 76 ∷ 69 ∷ 86 ∷ 69 ∷ 82 ∷ 83 ∷ 73 ∷ 79 ∷ 78 ∷ 61 ∷ 49 ∷ 46 ∷ []
+-- `$FILEVERSION=`
+abbrev pub fileText : List ℕ
+fileText = 36 ∷ 70 ∷ 73 ∷ 76 ∷ 69 ∷ 86 ∷ 69 ∷ 82 ∷ 83 ∷ 73 ∷ 79 ∷ 78 ∷ 61 ∷ []
 
--- The version's last digit.
-pub data Figure : ℕ → ℕ → Type 0 where
-  first : {b : ℕ} → b ≡ 49 → Figure 11 b
-  second : {b : ℕ} → b ≡ 50 → Figure 12 b
-
-pub no-figure : {v b : ℕ} → b ≢ 49 → b ≢ 50 → Figure v b → ⊥
-no-figure m n (first e) = m e
-no-figure m n (second e) = n e
-
-pub figure-one : {v u b : ℕ} → Figure v b → Figure u b → v ≡ u
-figure-one (first e) (first d) = refl
-figure-one (first e) (second d) = let z : _≡_ {A = ℕ} 49 50 = sym e ∙ d in absurd (omega arith)
-figure-one (second e) (first d) = let z : _≡_ {A = ℕ} 50 49 = sym e ∙ d in absurd (omega arith)
-figure-one (second e) (second d) = refl
-
--- A version's text ends in its digit.
-pub version-text : {v : ℕ} {s : List ℕ} → VersionText v s → (b : ℕ) × Figure v b × (s ≡ versionText ++ (b ∷ []))
-version-text (one e) = (49, first refl, e)
-version-text (two e) = (50, second refl, e)
-
-text-version : {v b : ℕ} → Figure v b → VersionText v (versionText ++ (b ∷ []))
-text-version (first e) = one (ap (λ (b : ℕ). versionText ++ (b ∷ [])) e)
-text-version (second e) = two (ap (λ (b : ℕ). versionText ++ (b ∷ [])) e)
-
--- What stands behind `$FILEVERSION=1.`, which ends at e.
+-- What stands behind `$FILEVERSION=`, which ends at e.
 pub record VersionEnd (v : ℕ) (line : List ℕ) (e : ℕ) : Type 0 where
-  pub room : e < length line
-  pub figure : Figure v (getD line e 0)
-  pub blank-end : Blanks (drop (e + 1) line)
+  pub room : e + 3 ≤ length line
+  pub is : Figures (getD line e 0) (getD line (e + 1) 0) (getD line (e + 2) 0) v
+  pub blank-end : Blanks (drop (e + 3) line)
 
 module _ {line : List ℕ} {at : ℕ} (o : Opened line at) where
-  version-tail : {v : ℕ} → VersionLine v line
-      → (b : ℕ) × (after : List ℕ) × Figure v b × Blanks after × (drop at line ≡ versionText ++ (b ∷ after))
-  version-tail v =
-      let x = version-text (v .is) in
-      let e : v .text ++ v .after ≡ versionText ++ (x .0 ∷ v .after) = ap (λ (l : List ℕ). l ++ v .after) (x .2) in
-      let s : Stops Blank (v .text ++ v .after) = rw e (halt {b = 36} (λ h. omega arith)) in
-      (x .0, v .after, x .1, v .blank-end, sym (opened-one (v .text ++ v .after) o (v .blanks) s (v .bytes)) ∙ e)
+  version-tail : {v : ℕ} (l : VersionLine v line) → drop at line ≡ versionText v ++ l .after
+  version-tail {v} l = sym (opened-one (versionText v ++ l .after) o (l .blanks) (halt {b = 36} (λ h. omega arith)) (l .bytes))
 
-  pub version-stands : {v : ℕ} → VersionLine v line → Stands versionText line at
-  version-stands v = let x = version-tail v in record { rest = x .0 ∷ x .1; bytes = x .4 }
+  pub version-stands : {v : ℕ} → VersionLine v line → Stands fileText line at
+  version-stands {v} l = record { rest = (48 + v / 10) ∷ 46 ∷ (48 + v % 10) ∷ l .after; bytes = version-tail l }
 
-  module _ (p : Stands versionText line at) where
-    pub version-end : {v : ℕ} → VersionLine v line → VersionEnd v line (at + 15)
-    version-end v =
-        let x = version-tail v in
-        let d : versionText ++ drop (at + 15) line ≡ versionText ++ (x .0 ∷ x .1) = sym (behind p) ∙ x .4 in
-        let t : drop (at + 15) line ≡ x .0 ∷ x .1 = cc in
-        let h = head-at line (at + 15) t in
-        record { room = h .0; figure = rw (h .1) (x .2); blank-end = rw (h .2) (x .3) }
-
-    pub version-made : {v : ℕ} → VersionEnd v line (at + 15) → VersionLine v line
-    version-made w =
-        let b = getD line (at + 15) 0 in
-        let d = behind p ∙ ap (λ (l : List ℕ). versionText ++ l) (at-head line (at + 15) (w .room) refl) in
+  module _ (p : Stands fileText line at) where
+    pub version-end : {v : ℕ} → VersionLine v line → VersionEnd v line (at + 13)
+    version-end {v} l =
+        let d : fileText ++ drop (at + 13) line ≡ versionText v ++ l .after = sym (behind p) ∙ version-tail l in
+        let t : drop (at + 13) line ≡ (48 + v / 10) ∷ 46 ∷ (48 + v % 10) ∷ l .after = cc in
+        let x = head-at line (at + 13) t in
+        let y = head-at line (at + 13 + 1) (x .2) in
+        let z = head-at line (at + 13 + 1 + 1) (y .2) in
+        let m : at + 13 + 1 + 1 ≡ at + 13 + 2 = omega arith in
+        let n : at + 13 + 1 + 1 + 1 ≡ at + 13 + 3 = omega arith in
+        let b : Blanks (drop (at + 13 + 1 + 1 + 1) line) = rw (z .2) (l .blank-end) in
         record {
+          room = omega (arith, z .0);
+          is = record { is = l .is; first = x .1; between = y .1; second = rw m at (z .1) };
+          blank-end = rw n at b;
+        }
+
+    pub version-made : {v : ℕ} → VersionEnd v line (at + 13) → VersionLine v line
+    version-made {v} w =
+        let r = w .room in
+        let x = at-head line (at + 13) (omega arith) (w .is .first) in
+        let y = at-head line (at + 13 + 1) (omega arith) (w .is .between) in
+        let m : at + 13 + 1 + 1 ≡ at + 13 + 2 = omega arith in
+        let n : at + 13 + 2 + 1 ≡ at + 13 + 3 = omega arith in
+        let z = at-head line (at + 13 + 2) (omega arith) (w .is .second) in
+        let t : drop (at + 13) line ≡ (48 + v / 10) ∷ 46 ∷ (48 + v % 10) ∷ drop (at + 13 + 3) line = rw (x, y, m, z, n) refl in
+        record {
+          is = w .is .is;
           before = o .before;
-          text = versionText ++ (b ∷ []);
-          after = drop (at + 15 + 1) line;
-          bytes = o .bytes ∙ ap (λ (l : List ℕ). 59 ∷ (o .before ++ l)) d;
+          after = drop (at + 13 + 3) line;
+          bytes = o .bytes ∙ ap (λ (l : List ℕ). 59 ∷ (o .before ++ l)) (behind p ∙ ap (λ (l : List ℕ). fileText ++ l) t);
           blanks = o .blanks;
-          is = text-version (w .figure);
           blank-end = w .blank-end;
         }
 
--- The digits of a start line.
-pub digits-of : {s : ℕ} {line : List ℕ} (l : StartLine s line) → StartDigits (l .day) (l .fraction) s
-digits-of l = record {
-  days = l .days;
-  count = l .count;
-  few = l .few;
-  parts = l .parts;
-  digits = l .digits;
-  some = l .some;
-  short = l .short;
-  is = l .is;
-  limit = l .limit;
-}
+    -- what the figures give is what the line gives
+    pub version-answer : {v : ℕ} → at + 13 + 3 ≤ length line → Blanks (drop (at + 13 + 3) line)
+        → FiguresOr0 (getD line (at + 13) 0) (getD line (at + 13 + 1) 0) (getD line (at + 13 + 2) 0) v → VersionOr0 line v
+    version-answer h b (figures f) = version (version-made (record { room = h; is = f; blank-end = b }))
+    version-answer h b (no-figures z f) = none z (λ u l. f u (version-end l .is))
 
 -- A point stops digits, and so do blanks.
 pub point-stops : {t : List ℕ} → Stops Digit (46 ∷ t)
@@ -189,7 +166,7 @@ module _ {line : List ℕ} {at : ℕ} (o : Opened line at) where
     start-day l =
         let d : startText ++ drop (at + 11) line ≡ startText ++ (l .day ++ (46 ∷ tail l)) = sym (behind p) ∙ start-tail l in
         let t : drop (at + 11) line ≡ l .day ++ (46 ∷ tail l) = cc in
-        let x = run-one r (46 ∷ tail l) (digits-all (l .count .digits)) point-stops t in
+        let x = run-one r (46 ∷ tail l) (digits-all (l .gives .count .digits)) point-stops t in
         (x .0, sym (x .1))
 
     pub start-point : {s : ℕ} → StartLine s line → (point < length line) × (getD line point 0 ≡ 46)
@@ -200,13 +177,13 @@ module _ {line : List ℕ} {at : ℕ} (o : Opened line at) where
           → (l .fraction ≡ slice (point + 1) end line) × (l .after ≡ drop end line)
       start-fraction l =
           let h = head-at line point (start-day l .1) in
-          run-one q (l .after) (digits-all (l .digits .digits)) (blanks-stop (l .blank-end)) (h .2)
+          run-one q (l .after) (digits-all (l .gives .digits .digits)) (blanks-stop (l .blank-end)) (h .2)
 
       pub start-blanks : {s : ℕ} → StartLine s line → Blanks (drop end line)
       start-blanks l = rw (start-fraction l .1) at (l .blank-end)
 
       start-digits : {s : ℕ} → StartLine s line → StartDigits (slice (at + 11) point line) (slice (point + 1) end line) s
-      start-digits l = rw (start-day l .0, start-fraction l .0) at (digits-of l)
+      start-digits l = rw (start-day l .0, start-fraction l .0) at (l .gives)
 
       start-made : {s : ℕ} → point < length line → getD line point 0 ≡ 46 → Blanks (drop end line)
           → StartDigits (slice (at + 11) point line) (slice (point + 1) end line) s → StartLine s line
@@ -223,16 +200,8 @@ module _ {line : List ℕ} {at : ℕ} (o : Opened line at) where
             after = drop end line;
             bytes = o .bytes ∙ ap (λ (l : List ℕ). 59 ∷ (o .before ++ l)) (behind p ∙ ap (λ (l : List ℕ). startText ++ l) z);
             blanks = o .blanks;
-            days = w .days;
-            count = w .count;
-            few = w .few;
-            parts = w .parts;
-            digits = w .digits;
-            some = w .some;
-            short = w .short;
+            gives = w;
             blank-end = b;
-            is = w .is;
-            limit = w .limit;
           }
 
       -- what the digits give is what the line gives

@@ -1,29 +1,18 @@
 -- Laws on the scans of a line: a run of bytes, bytes that stand at a place, and the place behind `;` and blanks.
-use Prim.Native.Nat.{ℕ, suc, _+_, _-_, _≤_, _<_}
+use Prim.Native.Nat.{ℕ, _+_, _-_, _≤_, _<_}
 use mathlib.Core.Path.{_≡_, ap, sym, _∙_}
 use mathlib.Core.Logic.{_≢_}
-use mathlib.Core.Bool.{Bool, true, false, not}
 use mathlib.Core.List.{List, [], _∷_, _++_, append-nil}
 use native.Mathlib.Numerals.{add-one}
 use native.Mathlib.Omega.{arith}
 use lib.ListN.{length, getD, take, drop, length-append, length-drop, drop-of-length-le, take-append-drop, List·getD-append}
 use lib.Seq.{slice, slice-empty, drop-cons, drop-drop, drop-append-seam, getD-drop, getD-take, take-at, length-slice, length-take-le, ext-getD}
-use Rattle.base.specs.Decides.{Decides}
 use Rattle.base.proofs.Lists.{slice-snoc}
 use Rattle.fields.specs.Runs.{All, empty, more, Stops, over, halt}
-use Rattle.fields.proofs.Runs.{cut, all-append}
+use Rattle.fields.proofs.Runs.{cut, all-map, all-append}
 use Rattle.fields.proofs.Window.{slice-drop}
 use Rattle.lines.specs.Lines.{Blanks}
-use Rattle.lines.specs.Parts.{Blank, Digit, Ran, Opened, OpenedOr0, opened, none, Stands}
-
--- What an answer says, by the test of its negation.
-pub holds : {P : Type 0} (r : Bool) → Decides P r → not r ≡ false → P
-holds true d e = d
-holds false d e = let z : _≡_ {A = ℕ} 0 1 = cc in absurd (omega arith)
-
-pub fails : {P : Type 0} (r : Bool) → Decides P r → not r ≡ true → P → ⊥
-fails true d e = let z : _≡_ {A = ℕ} 0 1 = cc in absurd (omega arith)
-fails false d e = d
+use Rattle.lines.specs.Parts.{Blank, Digit, Between, Ran, Opened, OpenedOr0, opened, none, Stands}
 
 -- What a loop over a run keeps: the bytes passed have P.
 pub record Passed (P : ℕ → Type 0) (s : List ℕ) (i e : ℕ) : Type 0 where
@@ -74,14 +63,22 @@ module _ {P : ℕ → Type 0} where
         let w = r .within in
         n (omega (arith, ap length z, length-drop e s))
 
--- A byte that stands behind a place.
-pub head-at : (s : List ℕ) (i : ℕ) {b : ℕ} {t : List ℕ} → drop i s ≡ b ∷ t
-    → (i < length s) × (getD s i 0 ≡ b) × (drop (i + 1) s ≡ t)
-head-at s i {b} {t} e =
-    let h : i < length s = omega (arith, ap length e, length-drop i s) in
-    let d : getD s i 0 ∷ drop (suc i) s ≡ b ∷ t = sym (drop-cons s i 0 h) ∙ e in
-    (h, cc, rw add-one (cc))
+-- A run of bytes with P is one of bytes with Q, where they are the same.
+same-run : {P Q : ℕ → Type 0} {s : List ℕ} {i e : ℕ} → ((b : ℕ) → P b → Q b) → ((b : ℕ) → Q b → P b) → Ran P s i e → Ran Q s i e
+same-run {P} {Q} f g r = record { from = r .from; within = r .within; all = all-map f (r .all); stops = go (r .stops) }
+  where
+    go : {t : List ℕ} → Stops P t → Stops Q t
+    go over = over
+    go (halt {b = b} n) = halt (λ q. n (g b q))
 
+pub blanks-ran : {s : List ℕ} {i e : ℕ} → Ran (Between 32 32) s i e → Ran Blank s i e
+blanks-ran = same-run (λ b p. omega arith) (λ b q. record { low = omega arith; high = omega arith })
+
+pub digits-ran : {s : List ℕ} {i e : ℕ} → Ran (Between 48 57) s i e → Ran Digit s i e
+digits-ran = same-run (λ b p. (b - 48, record { value = omega arith; byte = omega arith }))
+    (λ b (d, q). record { low = omega (arith, q .byte); high = omega (arith, q .byte, q .value) })
+
+-- A byte that stands behind a place.
 pub at-head : (s : List ℕ) (i : ℕ) {b : ℕ} → i < length s → getD s i 0 ≡ b → drop i s ≡ b ∷ drop (i + 1) s
 at-head s i h e = drop-cons s i 0 h ∙ rw (e, add-one)
 
@@ -141,12 +138,6 @@ opened-one {line} {before} {at} rest o b s e =
     let c : before ++ rest ≡ o .before ++ drop at line = cc in
     cut b (o .blanks) s (o .stops) c .1
 
--- Bytes that are no digit, and those that are.
+-- A byte below `0` is no digit.
 pub below-zero : {b : ℕ} → b < 48 → Digit b → ⊥
 below-zero h (d, p) = omega (arith, p .byte)
-
-pub above-nine : {b : ℕ} → 57 < b → Digit b → ⊥
-above-nine h (d, p) = omega (arith, p .byte, p .value)
-
-pub is-digit : {b : ℕ} → 48 ≤ b → b ≤ 57 → Digit b
-is-digit {b} l h = (b - 48, record { value = omega arith; byte = omega arith })

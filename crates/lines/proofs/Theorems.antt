@@ -1,7 +1,7 @@
 -- What holds of single lines, for those who cite them: one line, one version, one start, one answer; and lines that there are.
-use Prim.Native.Nat.{ℕ}
+use Prim.Native.Nat.{ℕ, _+_, _/_, _%_}
 use mathlib.Core.Path.{_≡_, refl, ap, sym, _∙_}
-use mathlib.Core.Logic.{_≢_, _⊎_, inl, inr}
+use mathlib.Core.Logic.{_≢_}
 use mathlib.Core.List.{List, [], _∷_, _++_, append-nil}
 use native.Mathlib.Omega.{arith}
 use lib.Dec.{T, leb, leb→le}
@@ -12,16 +12,17 @@ use Rattle.fields.specs.Runs.{All, empty, Stops, over, halt}
 use Rattle.base.proofs.Tables.{every, at}
 use Rattle.fields.proofs.Runs.{cut, all-of}
 use Rattle.fields.proofs.Scans.{digits-all}
+use Rattle.row.specs.Versions.{Version, is11, is12, versionText}
 use Rattle.lines.specs.declared.Ending.{Ending}
 use Rattle.lines.specs.declared.Ending.the-variants as ending
 use Rattle.lines.specs.declared.StartTime.{StartTime}
 use Rattle.lines.specs.declared.StartTime.the-variants as start-time
 use Rattle.lines.specs.declared.Remark.{Remark}
 use Rattle.lines.specs.declared.Remark.the-variants as remark
-use Rattle.lines.specs.Lines.{Inside, FirstLine, Blanks, VersionText, one, two, VersionLine, startText, StartLine, NoDollar, nothing, other, Comment, DollarLine}
+use Rattle.lines.specs.Lines.{Inside, FirstLine, Blanks, VersionLine, startText, StartDigits, StartLine, NoDollar, nothing, other, Comment, DollarLine}
 use Rattle.lines.specs.Answer.{EndsAt, VersionOr0, version, none, StartOr, Remarks}
-use Rattle.lines.specs.Parts.{Blank, StartDigits}
-use Rattle.lines.proofs.Lines.{cr-outside, lf-outside, versionText, version-text, figure-one, point-stops, blanks-stop, digits-of, digits-one}
+use Rattle.lines.specs.Parts.{Blank}
+use Rattle.lines.proofs.Lines.{cr-outside, lf-outside, point-stops, blanks-stop, digits-one}
 
 -- A text starts with one line.
 pub first-one : {l l′ r r′ t : List ℕ} → FirstLine l r t → FirstLine l′ r′ t → (l ≡ l′) × (r ≡ r′)
@@ -60,36 +61,25 @@ dollar-stops e = rw e (halt {b = 36} (λ h. omega arith))
 
 -- A line is a version line of one version.
 pub version-one : {v u : ℕ} {line : List ℕ} → VersionLine v line → VersionLine u line → v ≡ u
-version-one p q =
-    let x = version-text (p .is) in
-    let y = version-text (q .is) in
-    let d : p .text ++ p .after ≡ versionText ++ (x .0 ∷ p .after) = ap (λ (l : List ℕ). l ++ p .after) (x .2) in
-    let e : q .text ++ q .after ≡ versionText ++ (y .0 ∷ q .after) = ap (λ (l : List ℕ). l ++ q .after) (y .2) in
-    let b = behind-one _ _ (p .blanks) (q .blanks) (dollar-stops d) (dollar-stops e) (p .bytes) (q .bytes) in
-    let f : versionText ++ (x .0 ∷ p .after) ≡ versionText ++ (y .0 ∷ q .after) = sym d ∙ b ∙ e in
-    let g : x .0 ≡ y .0 = cc in
-    figure-one (rw g at (x .1)) (y .1)
-
--- It is 1.1 or 1.2.
-pub version-known : {v : ℕ} {line : List ℕ} → VersionLine v line → (v ≡ 11) ⊎ (v ≡ 12)
-version-known p = go (p .is)
-  where
-    go : {v : ℕ} {s : List ℕ} → VersionText v s → (v ≡ 11) ⊎ (v ≡ 12)
-    go (one e) = inl refl
-    go (two e) = inr refl
+version-one {v} {u} p q =
+    let b = behind-one _ _ (p .blanks) (q .blanks) (dollar-stops refl) (dollar-stops refl) (p .bytes) (q .bytes) in
+    let d : versionText v ++ p .after ≡ versionText u ++ q .after = b in
+    let x : 48 + v / 10 ≡ 48 + u / 10 = cc in
+    let y : 48 + v % 10 ≡ 48 + u % 10 = cc in
+    omega arith
 
 -- A line gives one start.
 pub start-one : {s u : ℕ} {line : List ℕ} → StartLine s line → StartLine u line → s ≡ u
 start-one {s} {u} p q =
     let b = behind-one _ _ (p .blanks) (q .blanks) (dollar-stops refl) (dollar-stops refl) (p .bytes) (q .bytes) in
     let d : p .day ++ (46 ∷ (p .fraction ++ p .after)) ≡ q .day ++ (46 ∷ (q .fraction ++ q .after)) = cc in
-    let x = cut (digits-all (p .count .digits)) (digits-all (q .count .digits)) point-stops point-stops d in
+    let x = cut (digits-all (p .gives .count .digits)) (digits-all (q .gives .count .digits)) point-stops point-stops d in
     let f : p .fraction ++ p .after ≡ q .fraction ++ q .after = cc (x .1) in
     let j = blanks-stop (p .blank-end) in
     let k = blanks-stop (q .blank-end) in
-    let y = cut (digits-all (p .digits .digits)) (digits-all (q .digits .digits)) j k f in
-    let w : StartDigits (q .day) (q .fraction) s = rw (x .0, y .0) at (digits-of p) in
-    digits-one (q .count) (q .digits) (q .is) w
+    let y = cut (digits-all (p .gives .digits .digits)) (digits-all (q .gives .digits .digits)) j k f in
+    let w : StartDigits (q .day) (q .fraction) s = rw (x .0, y .0) at (p .gives) in
+    digits-one (q .gives .count) (q .gives .digits) (q .gives .is) w
 
 -- A comment with `$` first is no plain comment.
 pub not-both : {line : List ℕ} → Comment line → DollarLine line → ⊥
@@ -148,18 +138,27 @@ text-inside f t = all-of f (λ k h.
     let b = leb→le 14 (getD f k 0) (at (λ k x. leb 14 x) 0 f t k h) in
     record { cr = λ e. omega arith; lf = λ e. omega arith })
 
-pub version-line-text : {v : ℕ} {s : List ℕ} → VersionText v s → VersionLine v (59 ∷ s)
-version-line-text {s = s} t =
-    let e = ap (λ (l : List ℕ). 59 ∷ l) (sym (append-nil s)) in
-    record { before = []; text = s; after = []; bytes = e; blanks = empty; is = t; blank-end = empty }
+pub version-line-text : {v : ℕ} → Version v → VersionLine v (59 ∷ versionText v)
+version-line-text {v} is =
+    let e = ap (λ (l : List ℕ). 59 ∷ l) (sym (append-nil (versionText v))) in
+    record { is = is; before = []; after = []; bytes = e; blanks = empty; blank-end = empty }
 
-pub some-version-line : (v : ℕ) → (v ≡ 11) ⊎ (v ≡ 12) → (line : List ℕ) × VersionLine v line
-some-version-line v (inl e) = rw e ((_, version-line-text (one refl)))
-some-version-line v (inr e) = rw e ((_, version-line-text (two refl)))
+pub version-line-inside : {v : ℕ} → Version v → All Inside (59 ∷ versionText v)
+version-line-inside is11 = text-inside _ tt
+version-line-inside is12 = text-inside _ tt
 
-pub version-line-inside : {v : ℕ} {s : List ℕ} → VersionText v s → All Inside (59 ∷ s)
-version-line-inside (one e) = rw e (text-inside _ tt)
-version-line-inside (two e) = rw e (text-inside _ tt)
+-- A start line without blanks.
+pub start-line-of : {day fraction : List ℕ} {start : ℕ} → StartDigits day fraction start → StartLine start (59 ∷ (startText ++ (day ++ (46 ∷ fraction))))
+start-line-of {day} {fraction} g = record {
+  before = [];
+  day = day;
+  fraction = fraction;
+  after = [];
+  bytes = ap (λ (f : List ℕ). 59 ∷ (startText ++ (day ++ (46 ∷ f)))) (sym (append-nil fraction));
+  blanks = empty;
+  gives = g;
+  blank-end = empty;
+}
 
 abbrev pub startLine : List ℕ
 startLine = 59 ∷ (startText ++ (48 ∷ 46 ∷ 48 ∷ []))
@@ -168,13 +167,7 @@ zero-digit : Digits DecimalDigit 10 (48 ∷ []) 0
 zero-digit = digits-more {d = 0} (record { value = omega arith; byte = refl }) no-digits refl
 
 pub start-line-text : StartLine 0 startLine
-start-line-text = record {
-  before = [];
-  day = 48 ∷ [];
-  fraction = 48 ∷ [];
-  after = [];
-  bytes = refl;
-  blanks = empty;
+start-line-text = start-line-of (record {
   days = 0;
   count = record { digits = zero-digit; some = omega arith; lead = λ h. absurd (omega arith) };
   few = omega arith;
@@ -182,10 +175,9 @@ start-line-text = record {
   digits = record { digits = zero-digit; width = refl };
   some = omega arith;
   short = omega arith;
-  blank-end = empty;
   is = record { low = omega arith; high = omega arith };
   limit = omega arith;
-}
+})
 
 pub start-line-inside : All Inside startLine
 start-line-inside = text-inside startLine tt

@@ -4,9 +4,11 @@ use mathlib.Core.Path.{_≡_}
 use mathlib.Core.Logic.{_≢_}
 use mathlib.Core.List.{List, [], _∷_, _++_}
 use lib.ListN.{length}
+use Rattle.base.specs.Text.{text, blank, semicolon, dollar, point, cr, lf}
 use Rattle.digits.specs.Digits.{Decimal, Padded}
 use Rattle.clock.specs.Start.{Start, startLimit}
 use Rattle.fields.specs.Runs.{All}
+use Rattle.row.specs.Versions.{Version, versionText}
 
 -- The most bytes of a line before its end.
 abbrev pub lineLimit : ℕ
@@ -14,47 +16,34 @@ lineLimit = 250
 
 -- A byte before the end of a line: neither CR nor LF.
 pub record Inside (b : ℕ) : Type 0 where
-  pub cr : b ≢ 13
-  pub lf : b ≢ 10
+  pub cr : b ≢ cr
+  pub lf : b ≢ lf
 
 -- The text starts with this line, and rest stands behind its end: a line ends at its first CR or LF, which must be CR directly followed
 -- by LF.
 pub record FirstLine (line rest text : List ℕ) : Type 0 where
   pub inside : All Inside line
-  pub ended : text ≡ line ++ (13 ∷ 10 ∷ rest)
+  pub ended : text ≡ line ++ (cr ∷ lf ∷ rest)
 
 -- Any blanks.
 abbrev pub Blanks : List ℕ → Type 0
-Blanks s = All (λ b. b ≡ 32) s
+Blanks s = All (λ b. b ≡ blank) s
 
--- `$FILEVERSION=1.1` and `$FILEVERSION=1.2`: versions 11 and 12.
-pub data VersionText : ℕ → List ℕ → Type 0 where
-  one : {s : List ℕ} → s ≡ 36 ∷ 70 ∷ 73 ∷ 76 ∷ 69 ∷ 86 ∷ 69 ∷ 82 ∷ 83 ∷ 73 ∷ 79 ∷ 78 ∷ 61 ∷ 49 ∷ 46 ∷ 49 ∷ [] → VersionText 11 s
-  two : {s : List ℕ} → s ≡ 36 ∷ 70 ∷ 73 ∷ 76 ∷ 69 ∷ 86 ∷ 69 ∷ 82 ∷ 83 ∷ 73 ∷ 79 ∷ 78 ∷ 61 ∷ 49 ∷ 46 ∷ 50 ∷ [] → VersionText 12 s
-
--- Line 1: `;`, any blanks, the version, any blanks.
+-- Line 1: `;`, any blanks, the text of a version, any blanks.
 pub record VersionLine (version : ℕ) (line : List ℕ) : Type 0 where
+  pub is : Version version
   pub before : List ℕ
-  pub text : List ℕ
   pub after : List ℕ
-  pub bytes : line ≡ 59 ∷ (before ++ (text ++ after))
+  pub bytes : line ≡ semicolon ∷ (before ++ (versionText version ++ after))
   pub blanks : Blanks before
-  pub is : VersionText version text
   pub blank-end : Blanks after
 
 -- `$STARTTIME=`
 abbrev pub startText : List ℕ
-startText = 36 ∷ 83 ∷ 84 ∷ 65 ∷ 82 ∷ 84 ∷ 84 ∷ 73 ∷ 77 ∷ 69 ∷ 61 ∷ []
+startText = text "$STARTTIME="
 
--- Line 2: `;`, any blanks, `$STARTTIME=`, a day count of 1 to 5 digits with no leading zero, a point, 1 to 10 digits, any blanks; and
--- the start, in milliseconds, within its limit.
-pub record StartLine (start : ℕ) (line : List ℕ) : Type 0 where
-  pub before : List ℕ
-  pub day : List ℕ
-  pub fraction : List ℕ
-  pub after : List ℕ
-  pub bytes : line ≡ 59 ∷ (before ++ (startText ++ (day ++ (46 ∷ (fraction ++ after)))))
-  pub blanks : Blanks before
+-- A day count of 1 to 5 digits with no leading zero, and 1 to 10 digits behind its point, give this start, in milliseconds, within its limit.
+pub record StartDigits (day fraction : List ℕ) (start : ℕ) : Type 0 where
   pub days : ℕ
   pub count : Decimal days day
   pub few : length day ≤ 5
@@ -62,20 +51,30 @@ pub record StartLine (start : ℕ) (line : List ℕ) : Type 0 where
   pub digits : Padded (length fraction) parts fraction
   pub some : 1 ≤ length fraction
   pub short : length fraction ≤ 10
-  pub blank-end : Blanks after
   pub is : Start days parts (length fraction) start
   pub limit : start ≤ startLimit
+
+-- Line 2: `;`, any blanks, `$STARTTIME=`, the day count, a point, the digits behind it, any blanks.
+pub record StartLine (start : ℕ) (line : List ℕ) : Type 0 where
+  pub before : List ℕ
+  pub day : List ℕ
+  pub fraction : List ℕ
+  pub after : List ℕ
+  pub bytes : line ≡ semicolon ∷ (before ++ (startText ++ (day ++ (point ∷ (fraction ++ after)))))
+  pub blanks : Blanks before
+  pub gives : StartDigits day fraction start
+  pub blank-end : Blanks after
 
 -- What stands behind a comment's `;` and blanks: nothing, or a first byte that is neither a blank nor `$`.
 pub data NoDollar : List ℕ → Type 0 where
   nothing : NoDollar []
-  other : {b : ℕ} {s : List ℕ} → b ≢ 32 → b ≢ 36 → NoDollar (b ∷ s)
+  other : {b : ℕ} {s : List ℕ} → b ≢ blank → b ≢ dollar → NoDollar (b ∷ s)
 
 -- A comment: its first byte is `;`, and its first non-blank byte after that is not `$`.
 pub record Comment (line : List ℕ) : Type 0 where
   pub before : List ℕ
   pub rest : List ℕ
-  pub bytes : line ≡ 59 ∷ (before ++ rest)
+  pub bytes : line ≡ semicolon ∷ (before ++ rest)
   pub blanks : Blanks before
   pub free : NoDollar rest
 
@@ -83,5 +82,5 @@ pub record Comment (line : List ℕ) : Type 0 where
 pub record DollarLine (line : List ℕ) : Type 0 where
   pub before : List ℕ
   pub rest : List ℕ
-  pub bytes : line ≡ 59 ∷ (before ++ (36 ∷ rest))
+  pub bytes : line ≡ semicolon ∷ (before ++ (dollar ∷ rest))
   pub blanks : Blanks before

@@ -1,15 +1,17 @@
 // Single lines of a trace: where one ends, and what a version line, a start line and a comment say.
+use base::wide;
 use clock::START_LIMIT;
 use clock::start_of;
 use digits::Number;
 use digits::read_decimal;
 use digits::read_padded;
+use row::is_version;
 ghost use Prim.Native.Nat.{_≤_};
 ghost use lib.ListN.{length};
 ghost use Rattle.base.specs.Decides.{Decides};
 ghost use Rattle.lines.specs.Lines.{Inside};
 ghost use Rattle.lines.specs.Answer.{EndsAt, VersionOr0, StartOr, Remarks};
-ghost use Rattle.lines.specs.Parts.{Blank, Digit, Ran, OpenedOr0, Stands, StartOfDigits};
+ghost use Rattle.lines.specs.Parts.{Between, FiguresOr0, Ran, OpenedOr0, Stands, StartOfDigits};
 
 // The most bytes of a line before its end.
 pub const LINE_LIMIT: usize = 250;
@@ -40,10 +42,10 @@ fn inside_end(text: &[u8], at: usize) -> usize
 {
     let mut e = at;
     while e < text.len() {
-        if text[e] == 13 {
+        if text[e] == b'\r' {
             return e;
         }
-        if text[e] == 10 {
+        if text[e] == b'\n' {
             return e;
         }
         e += 1;
@@ -60,41 +62,26 @@ pub fn line_end(text: &[u8], at: usize) -> Ending
     if text.len() - e < 2 {
         return Ending::Open;
     }
-    if text[e] != 13 {
+    if text[e] != b'\r' {
         return Ending::Open;
     }
-    if text[e + 1] != 10 {
+    if text[e + 1] != b'\n' {
         return Ending::Open;
     }
     Ending::At(e)
 }
 
-// Where the blanks from a place on end.
-fn blanks_end(line: &[u8], at: usize) -> usize
+// Where the bytes between two, these two among them, end that stand from a place on: blanks, or decimal digits.
+fn run_end(line: &[u8], at: usize, first: u8, last: u8) -> usize
     requires { ⌜ at ≤ length (now line) ⌝ }
-    ensures { λ r. ⌜ Ran Blank (now (line .entry)) at r ⌝ }
+    ensures { λ r. ⌜ Ran (Between first last) (now (line .entry)) at r ⌝ }
 {
     let mut e = at;
     while e < line.len() {
-        if line[e] != 32 {
+        if line[e] < first {
             return e;
         }
-        e += 1;
-    }
-    e
-}
-
-// Where the decimal digits from a place on end.
-fn digits_end(line: &[u8], at: usize) -> usize
-    requires { ⌜ at ≤ length (now line) ⌝ }
-    ensures { λ r. ⌜ Ran Digit (now (line .entry)) at r ⌝ }
-{
-    let mut e = at;
-    while e < line.len() {
-        if line[e] < 48 {
-            return e;
-        }
-        if 57 < line[e] {
+        if last < line[e] {
             return e;
         }
         e += 1;
@@ -127,13 +114,36 @@ fn opened(line: &[u8]) -> usize
     if line.len() == 0 {
         return 0;
     }
-    if line[0] != 59 {
+    if line[0] != b';' {
         return 0;
     }
-    blanks_end(line, 1)
+    run_end(line, 1, b' ', b' ')
 }
 
-// The version of a version line, 11 or 12, or 0.
+// The version of two figures with a point between, or 0.
+fn version_of(a: u8, dot: u8, b: u8) -> u64
+    ensures { λ r. ⌜ FiguresOr0 a dot b r ⌝ }
+{
+    if dot != b'.' {
+        return 0;
+    }
+    if a < b'0' {
+        return 0;
+    }
+    if b < b'0' {
+        return 0;
+    }
+    if b'9' < b {
+        return 0;
+    }
+    let version = 10 * wide(a - b'0') + wide(b - b'0');
+    if is_version(version) {
+        return version;
+    }
+    0
+}
+
+// The version of a version line, or 0.
 pub fn version_line(line: &[u8]) -> u64
     ensures { λ r. ⌜ VersionOr0 (now (line .entry)) r ⌝ }
 {
@@ -141,23 +151,17 @@ pub fn version_line(line: &[u8]) -> u64
     if a == 0 {
         return 0;
     }
-    if !stands(line, a, b"$FILEVERSION=1.") {
+    if !stands(line, a, b"$FILEVERSION=") {
         return 0;
     }
-    let e = a + 15;
-    if e == line.len() {
+    let e = a + 13;
+    if line.len() - e < 3 {
         return 0;
     }
-    if blanks_end(line, e + 1) != line.len() {
+    if run_end(line, e + 3, b' ', b' ') != line.len() {
         return 0;
     }
-    if line[e] == 49 {
-        return 11;
-    }
-    if line[e] == 50 {
-        return 12;
-    }
-    0
+    version_of(line[e], line[e + 1], line[e + 2])
 }
 
 // The start that the day's digits and the fraction's give.
@@ -198,16 +202,16 @@ pub fn start_line(line: &[u8]) -> StartTime
         return StartTime::Not;
     }
     let day = a + 11;
-    let point = digits_end(line, day);
+    let point = run_end(line, day, b'0', b'9');
     if point == line.len() {
         return StartTime::Not;
     }
-    if line[point] != 46 {
+    if line[point] != b'.' {
         return StartTime::Not;
     }
     let fraction = point + 1;
-    let end = digits_end(line, fraction);
-    if blanks_end(line, end) != line.len() {
+    let end = run_end(line, fraction, b'0', b'9');
+    if run_end(line, end, b' ', b' ') != line.len() {
         return StartTime::Not;
     }
     start_of_digits(&line[day..point], &line[fraction..end])
@@ -224,7 +228,7 @@ pub fn remark_of(line: &[u8]) -> Remark
     if a == line.len() {
         return Remark::Plain;
     }
-    if line[a] == 36 {
+    if line[a] == b'$' {
         return Remark::Dollar;
     }
     Remark::Plain

@@ -1,13 +1,15 @@
 -- Rows of received frames: fields joined by blanks, and which record they are a row of.
-use Prim.Native.Nat.{ℕ, suc, _+_, _^_, _≤_, _<_}
-use mathlib.Core.Path.{_≡_, refl, ap, sym, subst}
+use Prim.Native.Nat.{ℕ, suc, _+_, _-_, _^_, _≤_, _<_}
+use mathlib.Core.Path.{_≡_, refl, ap, subst}
 use mathlib.Core.Bool.{Bool}
-use mathlib.Core.List.{List, [], _∷_, append-nil}
+use mathlib.Core.List.{List, [], _∷_}
 use native.Mathlib.Nat.{zero-mod}
 use native.Mathlib.Omega.{arith}
 use lib.Dec.{T, leb, leb→le}
 use lib.ListN.{length, getD}
+use Rattle.base.specs.Spaced.{spaced, joined}
 use Rattle.base.proofs.Tables.{both, both-left, both-right, every, at}
+use Rattle.base.specs.Text.{text}
 use Rattle.digits.specs.declared.Letters.the-variants.{Capital}
 use Rattle.digits.specs.Digits.{Hex}
 use Rattle.digits.specs.House.{glyphOf, fixed}
@@ -19,9 +21,9 @@ use Rattle.fields.proofs.Runs.{all-of}
 use Rattle.fields.proofs.Parts.{parted-one, first}
 use Rattle.record.specs.declared.Record.{Record}
 use Rattle.record.specs.Record.{WellFormed}
+use Rattle.record.proofs.Frames.{frame-formed}
+use Rattle.row.specs.Versions.{is11}
 use Rattle.row.specs.Row
-use Rattle.row.specs.House.{joined}
-use Rattle.papers.specs.Text.{text}
 use Rattle.papers.specs.Cases.{received}
 
 -- Each field has a byte, and none that is a blank or below; this antt computes.
@@ -33,13 +35,13 @@ no-blank f t = all-of f (λ k h. let l = leb→le 33 (getD f k 0) (at (λ j b. l
 
 -- Such fields, joined, are parted into them;
 parted : (i : ℕ) (fs : List (List ℕ)) → T (solid i fs) → Parted fs (joined fs)
-unfolding joined
+unfolding spaced joined
 parted i [] t = none
 parted i (f ∷ []) t =
     let s = leb 1 (length f) in
     let b = every (λ j b. leb 33 b) 0 f in
     let u = both-left (both s b) _ t in
-    first (leb→le 1 (length f) (both-left s b u)) (no-blank f (both-right s b u)) over none (sym (append-nil f))
+    first (leb→le 1 (length f) (both-left s b u)) (no-blank f (both-right s b u)) over none refl
 parted i (f ∷ g ∷ fs) t =
     let s = leb 1 (length f) in
     let b = every (λ j b. leb 33 b) 0 f in
@@ -59,7 +61,7 @@ from-rx (Row.error e i) = absurd (omega (arith, ap length e))
 
 -- The fields of a received frame, from the ID on.
 pub frame : {k : ℕ} {r : Record} {n o : List ℕ} {fs : List (List ℕ)} → Row.RowFields 11 k r (n ∷ o ∷ markRx ∷ fs) → Row.FrameId 0 r fs
-frame (Row.number a (Row.one b c m)) = from-rx m
+frame (Row.number a (Row.offset is11 b (Row.no-bus c m))) = from-rx m
 
 -- 0800 and 20000000 are no IDs.
 
@@ -95,21 +97,21 @@ no-0A e (Row.remote k d f) = let z : _≡_ {A = ℕ} 48 82 = cc in omega arith
 -- The rows that are refused.
 
 pub row-0800 : (r : Record) → Row.Row 11 1 r (text "1) 0.0 Rx 0800 0") → ⊥
-unfolding joined
+unfolding spaced joined
 row-0800 r w = go (frame (fields-of (text "1)" ∷ text "0.0" ∷ text "Rx" ∷ text "0800" ∷ text "0" ∷ []) tt w))
   where
     go : Row.FrameId 0 r (text "0800" ∷ text "0" ∷ []) → ⊥
     go (Row.frame-id i l) = no-800 i
 
 pub row-20000000 : (r : Record) → Row.Row 11 1 r (text "1) 0.0 Rx 20000000 0") → ⊥
-unfolding joined
+unfolding spaced joined
 row-20000000 r w = go (frame (fields-of (text "1)" ∷ text "0.0" ∷ text "Rx" ∷ text "20000000" ∷ text "0" ∷ []) tt w))
   where
     go : Row.FrameId 0 r (text "20000000" ∷ text "0" ∷ []) → ⊥
     go (Row.frame-id i l) = no-20000000 i
 
 pub row-0-byte : (r : Record) → Row.Row 11 1 r (text "1) 0.0 Rx 0123 0 0A") → ⊥
-unfolding joined
+unfolding spaced joined
 row-0-byte r w = go (frame (fields-of (text "1)" ∷ text "0.0" ∷ text "Rx" ∷ text "0123" ∷ text "0" ∷ text "0A" ∷ []) tt w))
   where
     go : Row.FrameId 0 r (text "0123" ∷ text "0" ∷ text "0A" ∷ []) → ⊥
@@ -120,17 +122,5 @@ row-0-byte r w = go (frame (fields-of (text "1)" ∷ text "0.0" ∷ text "Rx" �
 -- A received frame, of data or remote, is well formed.
 pub received-formed : (kind extended id len : ℕ) → kind ≤ 3 → extended ≤ 1 → (extended ≡ 0 → id ≤ 0x7FF) → id < 2 ^ 29 → len ≤ 8
     → WellFormed (received kind extended id len)
-received-formed kind extended id len k x s i l = record {
-  offset = omega arith;
-  bus = omega arith;
-  kind = omega arith;
-  extended = x;
-  standard = s;
-  id = i;
-  len = l;
-  eight = omega arith;
-  past = zero-mod _;
-  remote = λ e. refl;
-  warning = λ e. absurd (omega arith);
-  error = λ e. absurd (omega arith);
-}
+received-formed kind extended id len k x s i l =
+    frame-formed _ k (omega arith) (omega arith) x s i l (omega arith) (zero-mod (256 ^ (8 - len))) (λ e. refl)

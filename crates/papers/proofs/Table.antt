@@ -4,16 +4,18 @@ use mathlib.Core.Path.{_≡_, refl}
 use mathlib.Core.Logic.{⊎-elim}
 use native.Mathlib.Omega.{arith}
 use lib.ListN.{length}
-use Rattle.digits.specs.House.{glyphOf, fixed, spell, decimalText}
+use Rattle.base.specs.Spaced.{spaced, joined}
+use Rattle.digits.specs.House.{glyphOf, fixed, spell, decimalText, byteTexts}
 use Rattle.clock.specs.Start.{dayMs}
 use Rattle.clock.proofs.Cases.{day-0, day-37704, day-39878, past-limit, leap-day}
 use Rattle.lines.specs.Lines.{StartLine}
 use Rattle.record.specs.declared.Record.{Record}
 use Rattle.record.specs.Bytes.{bytes}
 use Rattle.record.specs.Record.{WellFormed, number, Packs}
+use Rattle.record.proofs.Frames.{frame-formed}
 use Rattle.row.specs.Row.{Row}
-use Rattle.row.specs.Carries.{v11, v12}
-use Rattle.row.specs.House.{joined, numberText, offsetText, busTexts, markText, idText, byteTexts, dataTexts, rowTexts, rowText}
+use Rattle.row.specs.House.{numberText, offsetText, busTexts, markText, idText, dataTexts, rowTexts, rowText}
+use Rattle.row.specs.Versions.{v11, v12}
 use Rattle.row.proofs.Spelled.{row-spelled}
 use Rattle.papers.specs.Cases.{Holds, received, table, Every, none, more}
 use Rattle.papers.proofs.Starts.{startLine, gives, gives-only}
@@ -29,20 +31,9 @@ abbrev first : Record
 first = record { offset = 0; bus = 1; kind = 0; extended = 0; id = 0x123; len = 2; «data» = 0x0AFF000000000000 }
 
 first-formed : WellFormed first
-first-formed = record {
-  offset = omega arith;
-  bus = omega arith;
-  kind = omega arith;
-  extended = omega arith;
-  standard = λ e. omega arith;
-  id = omega arith;
-  len = omega arith;
-  eight = omega arith;
-  past = omega arith;
-  remote = ⊎-elim (λ e. absurd (omega arith)) (λ e. absurd (omega arith));
-  warning = λ e. absurd (omega arith);
-  error = λ e. absurd (omega arith);
-}
+first-formed =
+    frame-formed _ (omega arith) (omega arith) (omega arith) (omega arith) (λ e. omega arith) (omega arith) (omega arith) (omega arith) refl
+    (⊎-elim (λ e. absurd (omega arith)) (λ e. absurd (omega arith)))
 
 first-row : (r : Record) × Row 12 1 r (rowText 12 1 first) × Packs r (bytes 20 (number first))
 first-row = (first, row-spelled first-formed (v12 (omega arith) (omega arith)) (omega arith) (omega arith), record { formed = first-formed; packed = refl })
@@ -53,11 +44,11 @@ left = (gives 39878 10 6772258947 (39878 * dayMs + 58512317) (omega arith) (omeg
 
 -- 99999.9999999999
 late : (ms : ℕ) → StartLine ms (startLine 99999 10 9999999999) → ⊥
-late ms s = omega (arith, s .limit, past-limit ms (gives-only 99999 10 9999999999 (omega arith) s))
+late ms s = omega (arith, s .gives .limit, past-limit ms (gives-only 99999 10 9999999999 (omega arith) s))
 
 -- Every case holds.
 pub papers : Every Holds table
-unfolding bytes joined numberText offsetText busTexts markText idText byteTexts dataTexts rowTexts decimalText spell fixed glyphOf
+unfolding bytes spaced joined numberText offsetText busTexts markText idText byteTexts dataTexts rowTexts decimalText spell fixed glyphOf
 papers =
     more (gives 0 1 0 0 (omega arith) (omega arith) (omega arith) (omega arith) day-0 (omega arith))
     (more (gives 37704 10 5364870833 3257671952484 (omega arith) (omega arith) (omega arith) (omega arith) day-37704 (omega arith))

@@ -2,6 +2,7 @@
 use Prim.Native.Nat.{ℕ, _+_, _*_, _<_}
 use Prim.Native.String.{String}
 use mathlib.Core.List.{List, [], _∷_}
+use Rattle.base.specs.Text.{text}
 use Rattle.clock.specs.declared.CalendarDay.{CalendarDay}
 use Rattle.clock.specs.Start.{dayMs}
 use Rattle.clock.specs.Date.{Date}
@@ -9,7 +10,6 @@ use Rattle.lines.specs.Lines.{StartLine}
 use Rattle.record.specs.declared.Record.{Record}
 use Rattle.record.specs.Record.{Packs}
 use Rattle.row.specs.Row.{Row}
-use Rattle.papers.specs.Text.{text}
 
 pub data Case : Type 0 where
   -- a start line gives this start

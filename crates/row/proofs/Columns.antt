@@ -2,6 +2,7 @@
 use Prim.Native.Nat.{ℕ, zero, suc, _+_, _-_, _^_, _≤_, _<_}
 use mathlib.Core.Path.{_≡_, refl, sym, _∙_}
 use mathlib.Core.Logic.{_≢_}
+use mathlib.Core.Bool.{true, false}
 use mathlib.Core.List.{List, _∷_}
 use native.Mathlib.Omega.{arith}
 use lib.ListN.{length}
@@ -16,6 +17,7 @@ use Rattle.row.specs.declared.Part.{Part}
 use Rattle.row.specs.declared.Step.{Step}
 use Rattle.row.specs.declared.Stage.{Stage}
 use Rattle.row.specs.declared.Stage.the-variants as stage
+use Rattle.row.specs.Versions.{Version, fractionDigits, hasBus}
 use Rattle.row.specs.Row
 use Rattle.row.specs.Stages.{Steps, Continues, Good, known2, known4, continues}
 use Rattle.row.proofs.Moves.{Got, barred, went}
@@ -29,13 +31,14 @@ behind at stage left place r = record { at = at; part = record { stage = stage; 
 pub after-number : {v k : ℕ} {r : Record} {f : List ℕ} {fs : List (List ℕ)} → Row.RowFields v k r (f ∷ fs) → NumberField k f × Row.FromOffset r v fs
 after-number (Row.number n o) = (n, o)
 
-pub after-one : {r : Record} {f : List ℕ} {fs : List (List ℕ)} → Row.FromOffset r 11 (f ∷ fs) → OffsetField 1 (r .offset) f × (r .bus ≡ 0) × Row.FromMark r fs
-after-one (Row.one o b m) = (o, b, m)
+pub after-offset : {v : ℕ} {r : Record} {f : List ℕ} {fs : List (List ℕ)} → Row.FromOffset r v (f ∷ fs)
+    → OffsetField (fractionDigits v) (r .offset) f × Row.FromBus r (hasBus v) fs
+after-offset (Row.offset v o b) = (o, b)
 
-pub after-three : {r : Record} {f : List ℕ} {fs : List (List ℕ)} → Row.FromOffset r 12 (f ∷ fs) → OffsetField 3 (r .offset) f × Row.FromBus r fs
-after-three (Row.three o b) = (o, b)
+without-bus : {r : Record} {fs : List (List ℕ)} → Row.FromBus r false fs → (r .bus ≡ 0) × Row.FromMark r fs
+without-bus (Row.no-bus b m) = (b, m)
 
-pub after-bus : {r : Record} {f : List ℕ} {fs : List (List ℕ)} → Row.FromBus r (f ∷ fs) → BusField (r .bus) f × Row.FromMark r fs
+pub after-bus : {r : Record} {f : List ℕ} {fs : List (List ℕ)} → Row.FromBus r true (f ∷ fs) → BusField (r .bus) f × Row.FromMark r fs
 after-bus (Row.bus b m) = (b, m)
 
 pub after-id : {sent : ℕ} {r : Record} {f : List ℕ} {fs : List (List ℕ)} → Row.FrameId sent r (f ∷ fs) → IdField (r .extended) (r .id) f × Row.FrameLength sent r fs
@@ -56,19 +59,21 @@ module _ {w : List ℕ} {at k : ℕ} {s : Scan} {version : ℕ} (t : Step) (g : 
   number-went z e d o = went t g z d (λ f fs r h _ c. rw o (after-number c .1)) (λ f fs r h _ c. Row.number (rw e at h) (rw o at c))
 
 module _ {w : List ℕ} {at : ℕ} (p : Part) {s : Scan} where
-  pub offset11-went : (q : Record) → q .offset ≡ s .value → q .bus ≡ 0 → q .«data» ≡ 0 → Got (OffsetField 1) w at s
-      → Steps w at (continues stage.Offset11 p) (behind (s .end) stage.Mark 0 0 q)
-  offset11-went q x y d g =
-      went _ g refl d
-      (λ f fs r o e c. let a = after-one c in let h = offset-one (a .0) o in (cc (x, y, a .1), a .2))
-      (λ f fs r o e c. let h : s .value ≡ r .offset = cc (x, c .0) in let b : r .bus ≡ 0 = cc (y, c .0) in Row.one (rw h at o) b (c .1))
+  module _ {v : ℕ} (is : Version v) (g : Got (OffsetField (fractionDigits v)) w at s) where
+    -- an offset with no bus behind it, and one with a bus
+    pub offset-went : hasBus v ≡ false → (q : Record) → q .offset ≡ s .value → q .bus ≡ 0 → q .«data» ≡ 0
+        → Steps w at (continues (stage.Offset v) p) (behind (s .end) stage.Mark 0 0 q)
+    offset-went n q x y d =
+        went _ g refl d
+        (λ f fs r o e c. let a = after-offset c in let h = offset-one (a .0) o in let b = without-bus (rw n at (a .1)) in (cc (x, y, b .0), b .1))
+        (λ f fs r o e c. let h : s .value ≡ r .offset = cc (x, c .0) in let b : r .bus ≡ 0 = cc (y, c .0) in Row.offset is (rw h at o) (rw n (Row.no-bus b (c .1))))
 
-  pub offset12-went : (q : Record) → q .offset ≡ s .value → q .«data» ≡ 0 → Got (OffsetField 3) w at s
-      → Steps w at (continues stage.Offset12 p) (behind (s .end) stage.Bus 0 0 q)
-  offset12-went q x d g =
-      went _ g refl d
-      (λ f fs r o e c. let a = after-three c in (offset-one (a .0) o ∙ sym x, a .1))
-      (λ f fs r o e c. let h : s .value ≡ r .offset = sym x ∙ sym (c .0) in Row.three (rw h at o) (c .1))
+    pub offset-bus-went : hasBus v ≡ true → (q : Record) → q .offset ≡ s .value → q .«data» ≡ 0
+        → Steps w at (continues (stage.Offset v) p) (behind (s .end) stage.Bus 0 0 q)
+    offset-bus-went n q x d =
+        went _ g refl d
+        (λ f fs r o e c. let a = after-offset c in (offset-one (a .0) o ∙ sym x, rw n at (a .1)))
+        (λ f fs r o e c. let h : s .value ≡ r .offset = sym x ∙ sym (c .0) in Row.offset is (rw h at o) (rw n (c .1)))
 
   pub bus-went : (q : Record) → q .offset ≡ p .r .offset → q .bus ≡ s .value → q .«data» ≡ 0 → Got BusField w at s
       → Steps w at (continues stage.Bus p) (behind (s .end) stage.Mark 0 0 q)

@@ -15,8 +15,7 @@ use Rattle.row.proofs.Data.{no-more, none-left}
 
 -- The stages that a row may end in.
 abbrev pub last : Stage → Bool
-last stage.Offset11 = false
-last stage.Offset12 = false
+last (stage.Offset v) = false
 last stage.Bus = false
 last stage.Mark = false
 last stage.Id = false
@@ -58,8 +57,7 @@ module _ (p : Part) where
   left-early x g n = early (go x g)
     where
       go : (x : Stage) → good x p → (r : Record) → continues x p [] r → ⊥
-      go stage.Offset11 g r c = elim c [ ]
-      go stage.Offset12 g r c = elim c [ ]
+      go (stage.Offset v) g r c = elim c [ ]
       go stage.Bus g r c = elim (c .1) [ ]
       go stage.Mark g r c = elim (c .1) [ ]
       go stage.Id g r c = elim (c .1) [ ]
@@ -75,8 +73,7 @@ module _ (p : Part) where
       go stage.ErrorSecond g r c = elim (c .bytes) [ ]
 
   none-ends : (x : Stage) → good x p → p .left ≡ 0 → Ends x p (last x)
-  none-ends stage.Offset11 g n = early (λ r c. elim c [ ])
-  none-ends stage.Offset12 g n = early (λ r c. elim c [ ])
+  none-ends (stage.Offset v) g n = early (λ r c. elim c [ ])
   none-ends stage.Bus g n = early (λ r c. elim (c .1) [ ])
   none-ends stage.Mark g n = early (λ r c. elim (c .1) [ ])
   none-ends stage.Id g n = early (λ r c. elim (c .1) [ ])

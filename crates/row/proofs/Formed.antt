@@ -2,6 +2,7 @@
 use Prim.Native.Nat.{ℕ, zero, suc, _+_, _*_, _-_, _/_, _%_, _^_, _≤_, _<_}
 use mathlib.Core.Path.{_≡_, refl, ap, sym, _∙_}
 use mathlib.Core.Logic.{_⊎_, ⊎-elim}
+use mathlib.Core.Bool.{Bool}
 use mathlib.Core.List.{List}
 use native.Mathlib.Nat.{pow-suc, pow-succ', one-le-pow, zero-mod, mul-assoc, mul-div-cancel, mul-add-mod-self-right}
 use native.Mathlib.Omega.{arith}
@@ -12,8 +13,8 @@ use Rattle.digits.proofs.Theorems.{hex-below}
 use Rattle.fields.specs.Columns.{IdField, standard, long, lastNumber}
 use Rattle.record.specs.declared.Record.{Record}
 use Rattle.record.specs.Record.{ErrorId, one, two, four, eight, WellFormed}
+use Rattle.row.specs.Versions.{is11, is12, Carries, v11, v12}
 use Rattle.row.specs.Row
-use Rattle.row.specs.Carries.{Carries, v11, v12}
 
 -- Place value: a sum of n bytes, at most m + 1, of which the first has the place value 256 ^ m, fits m + 1 bytes, and those past the n are
 -- zero.
@@ -136,21 +137,24 @@ module _ {r : Record} where
     mark-formed (Row.warng e h) = warning-formed h
     mark-formed (Row.error e h) = error-formed h
 
+  bus-formed : {x : Bool} {fs : List (List ℕ)} → r .offset ≤ offsetLimit → Row.FromBus r x fs → WellFormed r
+  bus-formed o (Row.no-bus b h) = mark-formed o (omega arith) h
+  bus-formed o (Row.bus b h) = mark-formed o (b .high) h
+
 -- The record of a row is well formed.
 pub row-formed : {v k : ℕ} {r : Record} {line : List ℕ} → Row.Row v k r line → WellFormed r
 row-formed a = go (a .row)
   where
     go : {v k : ℕ} {r : Record} {fs : List (List ℕ)} → Row.RowFields v k r fs → WellFormed r
-    go (Row.number n (Row.one o b h)) = mark-formed (o .limit) (omega arith) h
-    go (Row.number n (Row.three o (Row.bus b h))) = mark-formed (o .limit) (b .high) h
+    go (Row.number n (Row.offset v o b)) = bus-formed (o .limit) b
 
 -- Its version can carry it.
 pub row-carried : {v k : ℕ} {r : Record} {line : List ℕ} → Row.Row v k r line → Carries r v
 row-carried a = go (a .row)
   where
     go : {v k : ℕ} {r : Record} {fs : List (List ℕ)} → Row.RowFields v k r fs → Carries r v
-    go (Row.number n (Row.one o b h)) = v11 b (omega (arith, o .value))
-    go (Row.number n (Row.three o (Row.bus b h))) = v12 (b .low) (b .high)
+    go (Row.number n (Row.offset is11 o (Row.no-bus b h))) = v11 b (omega (arith, o .value))
+    go (Row.number n (Row.offset is12 o (Row.bus b h))) = v12 (b .low) (b .high)
 
 -- The number of a row is 1 to 999,999.
 pub row-number : {v k : ℕ} {r : Record} {line : List ℕ} → Row.Row v k r line → (1 ≤ k) × (k ≤ lastNumber)

@@ -1,6 +1,7 @@
 -- How short a row can be: the least bytes of each column, and the blanks between them.
 use Prim.Native.Nat.{ℕ, _+_, _≤_}
 use mathlib.Core.Path.{ap, _∙_}
+use mathlib.Core.Bool.{Bool}
 use mathlib.Core.List.{List, [], _∷_}
 use native.Mathlib.Omega.{arith}
 use lib.ListN.{length, length-append}
@@ -9,6 +10,7 @@ use Rattle.fields.specs.Parted.{NoBlank, Parted, none, blank, field}
 use Rattle.fields.specs.Columns.{NumberField, OffsetField, IdField, standard, long, LengthField}
 use Rattle.record.specs.declared.Record.{Record}
 use Rattle.row.specs.Row
+use Rattle.row.proofs.EachVersion.{digits-some}
 
 -- The bytes of the fields, and a blank behind each.
 abbrev size : List (List ℕ) → ℕ
@@ -44,7 +46,7 @@ id-size (long e h l) = omega (arith, h .width)
 length-size : {len : ℕ} {f : List ℕ} → LengthField len f → 1 ≤ length f
 length-size p = omega (arith, ap length (p .spelled))
 
--- From the ID on, and from the mark on.
+-- From the ID on, from the mark on, and from the bus on.
 
 module _ {r : Record} where
   frame : {sent : ℕ} {fs : List (List ℕ)} → Row.FrameId sent r fs → 7 ≤ size fs
@@ -56,10 +58,13 @@ module _ {r : Record} where
   mark (Row.warng e (Row.warning-id k x h (Row.warning-length l b))) = omega (arith, ap length e, h .width, length-size l)
   mark (Row.error e (Row.error-id k x h i (Row.error-length n l b))) = omega (arith, ap length e, h .width, length-size l)
 
+  bus : {x : Bool} {fs : List (List ℕ)} → Row.FromBus r x fs → 10 ≤ size fs
+  bus (Row.no-bus b h) = mark h
+  bus (Row.bus b h) = omega (arith, mark h)
+
 -- The fields of a row, with a blank behind each.
 fields-size : {v k : ℕ} {r : Record} {fs : List (List ℕ)} → Row.RowFields v k r fs → 17 ≤ size fs
-fields-size (Row.number n (Row.one o b h)) = omega (arith, number-size n, offset-size (omega arith) o, mark h)
-fields-size (Row.number n (Row.three o (Row.bus b h))) = omega (arith, number-size n, offset-size (omega arith) o, mark h)
+fields-size {v} (Row.number n (Row.offset x o b)) = omega (arith, number-size n, offset-size (digits-some v) o, bus b)
 
 -- A row has at least 16 bytes: `1) 0.0 Rx 0000 0`.
 pub row-least : {v k : ℕ} {r : Record} {line : List ℕ} → Row.Row v k r line → 16 ≤ length line

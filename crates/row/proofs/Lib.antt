@@ -1,5 +1,6 @@
 pub mod Columns
 pub mod Data
+pub mod EachVersion
 pub mod Ending
 pub mod Fields
 pub mod Formed

@@ -1,6 +1,7 @@
 -- One reading: a line is the row of one record at most, of one number and in one version.
 use Prim.Native.Nat.{ℕ, _+_, _*_, _^_}
 use mathlib.Core.Path.{_≡_, refl, ap, ap₂, sym, _∙_}
+use mathlib.Core.Bool.{Bool}
 use mathlib.Core.List.{List, [], _∷_}
 use native.Mathlib.Omega.{arith}
 use lib.ListN.{length}
@@ -15,6 +16,7 @@ use Rattle.record.specs.declared.Record.{Record}
 use Rattle.record.specs.Promise.{fieldsOf}
 use Rattle.record.proofs.Promises.{same-fields}
 use Rattle.row.specs.Row
+use Rattle.row.proofs.EachVersion.{digits-tell}
 use Rattle.row.proofs.Columns.{AfterMark, received, sent, warned, failed, mark-of}
 
 -- The data.
@@ -81,13 +83,16 @@ marked (f ∷ fs) h k =
     let y = mark-of k in
     after-one (rw (mark-one (x .1) (y .1)) at (x .2)) (y .2)
 
+bused : {r q : Record} {x : Bool} {fs : List (List ℕ)} → Row.FromBus r x fs → Row.FromBus q x fs → (r .bus ≡ q .bus) × (behind r ≡ behind q)
+bused (Row.no-bus b h) (Row.no-bus c k) = (b ∙ sym c, marked _ h k)
+bused (Row.bus b h) (Row.bus c k) = (bus-one b c, marked _ h k)
+
 -- The fields of a row are those of one record at most.
 pub fields-one : {v k : ℕ} {r q : Record} {fs : List (List ℕ)} → Row.RowFields v k r fs → Row.RowFields v k q fs → r ≡ q
 fields-one {r = r} {q = q} (Row.number n o) (Row.number m p) = same-fields r q (go o p)
   where
     go : {v : ℕ} {fs : List (List ℕ)} → Row.FromOffset r v fs → Row.FromOffset q v fs → fieldsOf r ≡ fieldsOf q
-    go (Row.one o b h) (Row.one p c k) = cc (offset-one o p, marked _ h k)
-    go (Row.three o (Row.bus b h)) (Row.three p (Row.bus c k)) = cc (offset-one o p, bus-one b c, marked _ h k)
+    go (Row.offset x o b) (Row.offset y p c) = let e = bused b c in cc (offset-one o p, e .0, e .1)
 
 -- A line is the row of one record at most.
 pub row-one : {v k : ℕ} {r q : Record} {line : List ℕ} → Row.Row v k r line → Row.Row v k q line → r ≡ q
@@ -100,7 +105,7 @@ number-only a b = go (rw (parted-one (a .parted) (b .parted)) at (a .row)) (b .r
     go : {v u k j : ℕ} {r q : Record} {fs : List (List ℕ)} → Row.RowFields v k r fs → Row.RowFields u j q fs → k ≡ j
     go (Row.number n o) (Row.number m p) = number-one n m
 
--- The digits behind the point tell the version.
+-- An offset has one number of digits behind its point.
 width-one : {w x a b : ℕ} {f : List ℕ} → OffsetField w a f → OffsetField x b f → w ≡ x
 width-one p q =
     let r = cut (digits-all (p .first .digits)) (digits-all (q .first .digits))
@@ -113,7 +118,4 @@ pub version-only : {v u k j : ℕ} {r q : Record} {line : List ℕ} → Row.Row 
 version-only a b = go (rw (parted-one (a .parted) (b .parted)) at (a .row)) (b .row)
   where
     go : {v u k j : ℕ} {r q : Record} {fs : List (List ℕ)} → Row.RowFields v k r fs → Row.RowFields u j q fs → v ≡ u
-    go (Row.number n (Row.one o b h)) (Row.number m (Row.one p c k)) = refl
-    go (Row.number n (Row.one o b h)) (Row.number m (Row.three p c)) = absurd (omega (arith, width-one o p))
-    go (Row.number n (Row.three o b)) (Row.number m (Row.one p c k)) = absurd (omega (arith, width-one o p))
-    go (Row.number n (Row.three o b)) (Row.number m (Row.three p c)) = refl
+    go (Row.number n (Row.offset x o b)) (Row.number m (Row.offset y p c)) = digits-tell x y (width-one o p)

@@ -2,6 +2,7 @@
 use Prim.Native.Nat.{ℕ, _<_}
 use mathlib.Core.Path.{_≡_, sym, _∙_}
 use mathlib.Core.Logic.{_≢_, ⊎-elim}
+use mathlib.Core.Bool.{Bool}
 use mathlib.Core.List.{List, [], _∷_}
 use native.Mathlib.Omega.{arith}
 use lib.ListN.{length, getD, List·getD-append}
@@ -52,11 +53,13 @@ module _ {r : Record} where
       (then (hex-plain (hex-field (omega arith) h))
       (then (length-plain l) (then (byte-plain f) (then (byte-plain g) (bytes (λ gs. nothing) q)))))
 
+  bus : {x : Bool} {fs : List (List ℕ)} → Row.FromBus r x fs → Plains fs
+  bus (Row.no-bus b h) = mark h
+  bus (Row.bus b h) = then (bus-plain b) (mark h)
+
 -- Each field of a row has no blank, CR or LF.
 pub fields-plain : {v k : ℕ} {r : Record} {fs : List (List ℕ)} → Row.RowFields v k r fs → Each (All Plain) fs
-fields-plain (Row.number n (Row.one o b h)) = then (number-plain n) (then (offset-plain o) (mark h))
-fields-plain (Row.number n (Row.three o (Row.bus b h))) =
-    then (number-plain n) (then (offset-plain o) (then (bus-plain b) (mark h)))
+fields-plain (Row.number n (Row.offset v o b)) = then (number-plain n) (then (offset-plain o) (bus b))
 
 -- Of a whole line.
 

@@ -10,7 +10,8 @@ use lib.ListN.{length}
 use Rattle.base.specs.Limits.{offsetLimit}
 use Rattle.digits.specs.declared.Letters.the-variants.{Capital}
 use Rattle.digits.specs.Digits.{Hex}
-use Rattle.digits.specs.House.{decimalText, paddedText, hexText}
+use Rattle.digits.specs.House.{decimalText, paddedText, hexText, byteTexts}
+use Rattle.digits.proofs.ByteTexts.{bytes-none, bytes-more}
 use Rattle.digits.proofs.House.{few, decimal-spells, padded-spells}
 use Rattle.digits.proofs.Theorems.{hex-spells}
 use Rattle.fields.specs.Columns.{NumberField, OffsetField, IdField, standard, long, LengthField, lastNumber}
@@ -18,12 +19,12 @@ use Rattle.fields.proofs.Runs.{all-map}
 use Rattle.record.specs.declared.Record.{Record}
 use Rattle.record.specs.Record.{WellFormed}
 use Rattle.row.specs.Row
-use Rattle.row.specs.Carries.{Carries, v11, v12}
-use Rattle.row.specs.House.{numberText, markText, idText, byteTexts, dataTexts, rowTexts, rowText}
+use Rattle.row.specs.House.{numberText, markText, idText, dataTexts, frameTexts, rowTexts, rowText}
+use Rattle.row.specs.Versions.{is11, is12, Carries, v11, v12}
 use Rattle.row.proofs.Fields.{each-map}
 use Rattle.row.proofs.Formed.{error-small}
 use Rattle.row.proofs.Plain.{fields-plain}
-use Rattle.row.proofs.Texts.{joined-short, parted-joined, number-text, offset-text, mark-text, id-frame, id-warning, bytes-none, bytes-more, data-remote, data-bytes, markTexts, row-texts, row-texts-11, row-texts-12, row-sized}
+use Rattle.row.proofs.Texts.{joined-short, parted-joined, number-text, offset-text, mark-text, id-frame, id-warning, data-remote, data-bytes, row-texts, row-texts-11, row-texts-12, row-sized}
 
 -- Place value: the byte at 256 ^ m of a number, and those below it.
 high : (whole m : ℕ) → whole % 256 ^ suc m ≡ whole / 256 ^ m % 256 * 256 ^ m + whole % 256 ^ m
@@ -137,7 +138,7 @@ module _ {r : Record} (w : WellFormed r) where
       (bytes-spelled Row.Nothing Row.nothing (r .«data») 2 5 (256 ^ 5) _ refl (omega arith) (four-zero (x .len)) refl)
       (high (r .«data») 6)) (eight-bytes ∙ high (r .«data») 7))))
 
-  mark-spelled : (k : ℕ) → r .kind ≡ k → Row.FromMark r (markTexts r)
+  mark-spelled : (k : ℕ) → r .kind ≡ k → Row.FromMark r (frameTexts r)
   mark-spelled zero e = Row.rx (ap markText e ∙ mark-text 0) (frame 0 (λ z. omega arith) (received 0 (omega arith) e))
   mark-spelled (suc zero) e = Row.tx (ap markText e ∙ mark-text 1) (frame 1 (λ z. omega arith) (received 1 (omega arith) e))
   mark-spelled (suc (suc zero)) e =
@@ -154,12 +155,12 @@ pub fields-spelled : {v k : ℕ} {r : Record} → WellFormed r → Carries r v �
 fields-spelled {k = k} {r = r} w (v11 b o) l h =
     rw row-texts-11
     (Row.number (number-spelled k l h)
-    (Row.one (offset-spelled 1 (r .offset) (r .offset % 1000 / 100) (w .offset) (omega arith) (omega arith) (offset-text 11 (r .offset)))
-    b (mark-spelled w (r .kind) refl)))
+    (Row.offset is11 (offset-spelled 1 (r .offset) (r .offset % 1000 / 100) (w .offset) (omega arith) (omega arith) (offset-text 11 (r .offset)))
+    (Row.no-bus b (mark-spelled w (r .kind) refl))))
 fields-spelled {k = k} {r = r} w (v12 a b) l h =
     rw row-texts-12
     (Row.number (number-spelled k l h)
-    (Row.three (offset-spelled 3 (r .offset) (r .offset % 1000 / 1) (w .offset) (omega arith) (omega arith) (offset-text 12 (r .offset)))
+    (Row.offset is12 (offset-spelled 3 (r .offset) (r .offset % 1000 / 1) (w .offset) (omega arith) (omega arith) (offset-text 12 (r .offset)))
     (Row.bus (record { spelled = decimal-spells (r .bus); low = a; high = b }) (mark-spelled w (r .kind) refl))))
 
 -- The house spelling of a row is a row of its record.
@@ -169,8 +170,8 @@ row-spelled {v} {k} {r} w c l h =
     let p = each-map (λ g a. all-map (λ b q. q .blank) a) (fields-plain f) in
     record { fields = rowTexts v k r; parted = parted-joined (row-sized w c h) p; row = f }
 
--- It has at most 67 bytes: each column at its longest, though no row has all of them so.
-pub row-size : {v k : ℕ} {r : Record} → WellFormed r → Carries r v → k ≤ lastNumber → length (rowText v k r) ≤ 67
+-- It has at most 64 bytes: `999999) 99999999999.999 16 Rx 1FFFFFFF 8`, and eight bytes.
+pub row-size : {v k : ℕ} {r : Record} → WellFormed r → Carries r v → k ≤ lastNumber → length (rowText v k r) ≤ 64
 row-size {v} {k} {r} w c h = let s = joined-short (rw row-texts at (row-sized {k = k} w c h)) in rw row-texts (omega arith)
 
 -- So it is within the 250 bytes of a line.

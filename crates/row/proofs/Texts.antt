@@ -1,17 +1,22 @@
 -- The house texts: what each is, case by case, how long it is, and that joined fields are parted so.
 use Prim.Native.Nat.{ℕ, zero, suc, _+_, _*_, _-_, _/_, _%_, _^_, _≤_, _<_}
 use mathlib.Core.Path.{_≡_, refl, sym, _∙_}
-use mathlib.Core.Logic.{_≢_}
+use mathlib.Core.Logic.{_≢_, ⊎-elim}
+use mathlib.Core.Bool.{cond}
 use mathlib.Core.List.{List, [], _∷_, _++_, append-nil}
 use native.Mathlib.Decide.{ℕ-discrete}
 use native.Mathlib.Omega.{arith}
-use borrow.Author.Tests.{eq-eqb, ne-eqb}
-use lib.Dec.{leb, leb→le}
+use borrow.Author.Tests.{eq-eqb, ne-eqb, lt-ltb, le-ltb}
+use lib.Dec.{leb, ltb, leb→le}
 use lib.ListN.{length, getD, length-append}
 use Rattle.base.specs.Limits.{offsetLimit}
+use Rattle.base.specs.Spaced.{joined}
+use Rattle.base.proofs.Spaced.{spaced-none, spaced-more, joined-none, joined-more}
+use Rattle.base.proofs.Numbers.{below-or-not}
 use Rattle.base.proofs.Tables.{both, both-left, both-right, at}
 use Rattle.digits.specs.declared.Letters.the-variants.{Capital}
-use Rattle.digits.specs.House.{decimalText, paddedText, hexText, glyphOf, figureOf}
+use Rattle.digits.specs.House.{decimalText, paddedText, hexText, glyphOf, figureOf, byteTexts}
+use Rattle.digits.proofs.ByteTexts.{bytes-none, bytes-more}
 use Rattle.digits.proofs.House.{length-fixed, few, decimal-spells}
 use Rattle.fields.specs.Columns.{remoteText, lastNumber}
 use Rattle.fields.specs.Runs.{All, over, halt}
@@ -19,23 +24,17 @@ use Rattle.fields.specs.Parted.{NoBlank, Parted, none, blank}
 use Rattle.fields.proofs.Parts.{first}
 use Rattle.record.specs.declared.Record.{Record}
 use Rattle.record.specs.Record.{WellFormed}
-use Rattle.row.specs.House.{joined, numberText, offsetText, busTexts, marks, markText, idText, byteTexts, dataTexts, fractionDigits, rowTexts}
-use Rattle.row.specs.Carries.{Carries, v11, v12}
+use Rattle.row.specs.House.{numberText, offsetText, busTexts, marks, markText, idText, dataTexts, frameTexts, rowTexts}
+use Rattle.row.specs.Versions.{fractionDigits, Carries, v11, v12}
 use Rattle.row.proofs.Fields.{Each, no-more, then}
 
 -- Joined fields, case by case.
 
-pub joined-none : joined [] ≡ []
-unfolding joined
-joined-none = refl
+joined-last : (f : List ℕ) → joined (f ∷ []) ≡ f ++ []
+joined-last f = rw (joined-more, spaced-none)
 
-pub joined-last : (f : List ℕ) → joined (f ∷ []) ≡ f
-unfolding joined
-joined-last f = refl
-
-pub joined-more : (f g : List ℕ) (fs : List (List ℕ)) → joined (f ∷ g ∷ fs) ≡ f ++ (32 ∷ joined (g ∷ fs))
-unfolding joined
-joined-more f g fs = refl
+joined-two : (f g : List ℕ) (fs : List (List ℕ)) → joined (f ∷ g ∷ fs) ≡ f ++ (32 ∷ joined (g ∷ fs))
+joined-two f g fs = rw (joined-more, joined-more, spaced-more)
 
 -- No field is empty, and with a blank behind each they have at most n bytes.
 pub data Sized : ℕ → List (List ℕ) → Type 0 where
@@ -44,17 +43,17 @@ pub data Sized : ℕ → List (List ℕ) → Type 0 where
 
 -- With a blank between two only, they have less.
 pub joined-short : {n : ℕ} {f : List ℕ} {fs : List (List ℕ)} → Sized n (f ∷ fs) → length (joined (f ∷ fs)) < n
-joined-short {f = f} (one s l nil) = rw joined-last (omega arith)
+joined-short {f = f} (one s l nil) = rw (joined-last, append-nil f) (omega arith)
 joined-short {f = f} (one s l (one {f = g} {fs = fs} t k e)) =
     let i = joined-short {f = g} {fs = fs} (one t k e) in
-    rw (joined-more f g fs) (omega (arith, length-append f (32 ∷ joined (g ∷ fs))))
+    rw (joined-two f g fs) (omega (arith, length-append f (32 ∷ joined (g ∷ fs))))
 
 -- What is joined of fields without blanks is parted into them.
 pub parted-joined : {n : ℕ} {fs : List (List ℕ)} → Sized n fs → Each (All NoBlank) fs → Parted fs (joined fs)
 parted-joined nil no-more = rw joined-none none
-parted-joined (one {f = f} s l nil) (then p no-more) = first s p over none (joined-last f ∙ sym (append-nil f))
+parted-joined (one {f = f} s l nil) (then p no-more) = first s p over none (joined-last f)
 parted-joined (one {f = f} s l (one {f = g} {fs = fs} t k e)) (then p (then q c)) =
-    first s p (halt (λ n. n refl)) (blank (parted-joined (one t k e) (then q c))) (joined-more f g fs)
+    first s p (halt (λ n. n refl)) (blank (parted-joined (one t k e) (then q c))) (joined-two f g fs)
 
 -- Each text, as it is defined.
 
@@ -87,15 +86,6 @@ pub id-warning : (r : Record) → r .kind ≡ 4 → idText r ≡ hexText Capital
 unfolding idText
 id-warning r e = rw (eq-eqb (r .kind) 4 e)
 
-pub bytes-none : (place sum : ℕ) → byteTexts Capital place 0 sum ≡ []
-unfolding byteTexts
-bytes-none place sum = refl
-
-pub bytes-more : (place n sum : ℕ) → byteTexts Capital place (suc n) sum
-    ≡ hexText Capital 2 (sum / place % 256) ∷ byteTexts Capital (place / 256) n sum
-unfolding byteTexts
-bytes-more place n sum = refl
-
 pub data-remote : (r : Record) → r .kind / 2 ≡ 1 → dataTexts r ≡ remoteText ∷ []
 unfolding dataTexts
 data-remote r e = rw (eq-eqb (r .kind / 2) 1 e)
@@ -104,21 +94,17 @@ pub data-bytes : (r : Record) → r .kind / 2 ≢ 1 → dataTexts r ≡ byteText
 unfolding dataTexts
 data-bytes r n = rw (ne-eqb (r .kind / 2) 1 n)
 
--- From the mark on.
-abbrev pub markTexts : Record → List (List ℕ)
-markTexts r = markText (r .kind) ∷ idText r ∷ ((48 + r .len) ∷ []) ∷ dataTexts r
-
 -- The fields of a row, and in each version.
 pub row-texts : (v k : ℕ) (r : Record) → rowTexts v k r
-    ≡ numberText k ∷ offsetText v (r .offset) ∷ (busTexts v (r .bus) ++ markTexts r)
+    ≡ numberText k ∷ offsetText v (r .offset) ∷ (busTexts v (r .bus) ++ frameTexts r)
 unfolding rowTexts
 row-texts v k r = refl
 
-pub row-texts-11 : (k : ℕ) (r : Record) → rowTexts 11 k r ≡ numberText k ∷ offsetText 11 (r .offset) ∷ markTexts r
+pub row-texts-11 : (k : ℕ) (r : Record) → rowTexts 11 k r ≡ numberText k ∷ offsetText 11 (r .offset) ∷ frameTexts r
 row-texts-11 k r = rw (row-texts, bus-none)
 
 pub row-texts-12 : (k : ℕ) (r : Record) → rowTexts 12 k r
-    ≡ numberText k ∷ offsetText 12 (r .offset) ∷ decimalText (r .bus) ∷ markTexts r
+    ≡ numberText k ∷ offsetText 12 (r .offset) ∷ decimalText (r .bus) ∷ frameTexts r
 row-texts-12 k r = rw (row-texts, bus-text)
 
 -- How long each is.
@@ -151,13 +137,17 @@ offset-size v offset l h =
     let e = length-append (decimalText (offset / 1000)) (46 ∷ paddedText w n) in
     rw offset-text (omega arith, omega arith)
 
-mark-size : (kind : ℕ) → kind ≤ 5 → Fits 5 (markText kind)
+-- `Rx` and `Tx`, for frames, are shorter than `Warng` and `Error`.
+abbrev markWidth : ℕ → ℕ
+markWidth kind = cond (ltb kind 4) 2 5
+
+mark-size : (kind : ℕ) → kind ≤ 5 → Fits (markWidth kind) (markText kind)
 mark-size kind h =
-    let t = at (λ k f. both (leb 1 (length f)) (leb (length f) 5)) [] marks tt kind (omega arith) in
+    let t = at (λ k f. both (leb 1 (length f)) (leb (length f) (markWidth k))) [] marks tt kind (omega arith) in
     let f = getD marks kind [] in
     rw mark-text (
-      leb→le 1 (length f) (both-left (leb 1 (length f)) (leb (length f) 5) t),
-      leb→le (length f) 5 (both-right (leb 1 (length f)) (leb (length f) 5) t),
+      leb→le 1 (length f) (both-left (leb 1 (length f)) (leb (length f) (markWidth kind)) t),
+      leb→le (length f) (markWidth kind) (both-right (leb 1 (length f)) (leb (length f) (markWidth kind)) t),
     )
 
 id-size : (r : Record) → r .extended ≤ 1 → Fits 8 (idText r)
@@ -184,20 +174,40 @@ data-size r h = go (ℕ-discrete (r .kind / 2) 1)
     go (yes e) = rw (data-remote r e) (fits 24 3 0 (omega arith, omega arith) (omega arith) nil)
     go (no n) = rw (data-bytes r n) (wider (3 * r .len) 24 (omega arith) (bytes-size (256 ^ 7) (r .len) (r .«data»)))
 
-mark-sized : {r : Record} → WellFormed r → Sized 41 (markTexts r)
-mark-sized {r} w =
-    fits 41 5 35 (mark-size (r .kind) (w .kind)) (omega arith)
-    (fits 35 8 26 (id-size r (w .extended)) (omega arith)
-    (fits 26 1 24 (omega arith, omega arith) (omega arith) (data-size r (w .len))))
+-- A warning and an error frame have four bytes.
+four : {r : Record} → WellFormed r → 4 ≤ r .kind → r .len ≡ 4
+four {r} w h = go (ℕ-discrete (r .kind) 4)
+  where
+    go : Dec (r .kind ≡ 4) → r .len ≡ 4
+    go (yes e) = w .warning e .len
+    go (no n) = let k = w .kind in w .error (omega arith) .len
 
--- No field of the house is empty, and with a blank behind each they have at most 68 bytes.
-pub row-sized : {v k : ℕ} {r : Record} → WellFormed r → Carries r v → k ≤ lastNumber → Sized 68 (rowTexts v k r)
+-- From the mark on: a frame's eight bytes take more than what the long marks have more.
+mark-sized : {r : Record} → WellFormed r → Sized 38 (frameTexts r)
+mark-sized {r} w = ⊎-elim frame other (below-or-not (r .kind) 4)
+  where
+    frame : r .kind < 4 → Sized 38 (frameTexts r)
+    frame h =
+        fits 38 2 35 (rw (lt-ltb (r .kind) 4 h) at (mark-size (r .kind) (w .kind))) (omega arith)
+        (fits 35 8 26 (id-size r (w .extended)) (omega arith)
+        (fits 26 1 24 (omega arith, omega arith) (omega arith) (data-size r (w .len))))
+
+    other : 4 ≤ r .kind → Sized 38 (frameTexts r)
+    other h =
+        let n : r .kind / 2 ≢ 1 = λ e. omega arith in
+        let d = wider (3 * r .len) 12 (omega (arith, four w h)) (bytes-size (256 ^ 7) (r .len) (r .«data»)) in
+        fits 38 5 23 (rw (le-ltb (r .kind) 4 h) at (mark-size (r .kind) (w .kind))) (omega arith)
+        (fits 23 8 14 (id-size r (w .extended)) (omega arith)
+        (fits 14 1 12 (omega arith, omega arith) (omega arith) (rw (data-bytes r n) d)))
+
+-- No field of the house is empty, and with a blank behind each they have at most 65 bytes.
+pub row-sized : {v k : ℕ} {r : Record} → WellFormed r → Carries r v → k ≤ lastNumber → Sized 65 (rowTexts v k r)
 row-sized {k = k} {r = r} w (v11 b o) h =
     rw row-texts-11
-    (fits 68 7 60 (number-size k h) (omega arith)
-    (fits 60 15 41 (offset-size 11 (r .offset) (omega arith) (w .offset)) (omega arith) (mark-sized w)))
+    (fits 65 7 57 (number-size k h) (omega arith)
+    (fits 57 15 38 (offset-size 11 (r .offset) (omega arith) (w .offset)) (omega arith) (mark-sized w)))
 row-sized {k = k} {r = r} w (v12 l b) h =
     rw row-texts-12
-    (fits 68 7 60 (number-size k h) (omega arith)
-    (fits 60 15 44 (offset-size 12 (r .offset) (omega arith) (w .offset)) (omega arith)
-    (fits 44 2 41 (decimal-size 1 (r .bus) (omega arith)) (omega arith) (mark-sized w))))
+    (fits 65 7 57 (number-size k h) (omega arith)
+    (fits 57 15 41 (offset-size 12 (r .offset) (omega arith) (w .offset)) (omega arith)
+    (fits 41 2 38 (decimal-size 1 (r .bus) (omega arith)) (omega arith) (mark-sized w))))

@@ -2,6 +2,7 @@
 -- from the last to the first, each over the whole record.
 use Prim.Native.Nat.{ℕ, suc, _+_, _*_, _/_, _^_, _≤_}
 use mathlib.Core.Path.{_≡_}
+use mathlib.Core.Bool.{Bool, true, false}
 use mathlib.Core.List.{List, [], _∷_}
 use Rattle.digits.specs.Digits.{Hex}
 use Rattle.record.specs.declared.Record.{Record}
@@ -9,6 +10,7 @@ use Rattle.record.specs.Record.{Position, ErrorId, Warning}
 use Rattle.fields.specs.Runs.{All}
 use Rattle.fields.specs.Parted.{Parted}
 use Rattle.fields.specs.Columns.{NumberField, OffsetField, BusField, IdField, LengthField, Capital, markRx, markTx, markWarng, markError, remoteText}
+use Rattle.row.specs.Versions.{Version, fractionDigits, hasBus}
 
 -- Any number of words.
 pub data Words : List (List ℕ) → Type 0 where
@@ -75,16 +77,17 @@ pub data FromMark (r : Record) : List (List ℕ) → Type 0 where
   warng : {f : List ℕ} {fs : List (List ℕ)} → f ≡ markWarng → WarningId r fs → FromMark r (f ∷ fs)
   error : {f : List ℕ} {fs : List (List ℕ)} → f ≡ markError → ErrorIdField r fs → FromMark r (f ∷ fs)
 
--- From the bus on (version 1.2).
-pub data FromBus (r : Record) : List (List ℕ) → Type 0 where
-  bus : {f : List ℕ} {fs : List (List ℕ)} → BusField (r .bus) f → FromMark r fs → FromBus r (f ∷ fs)
+-- From the bus on, where the version has one; where it has none, the bus is 0.
+pub data FromBus (r : Record) : Bool → List (List ℕ) → Type 0 where
+  no-bus : {fs : List (List ℕ)} → r .bus ≡ 0 → FromMark r fs → FromBus r false fs
+  bus : {f : List ℕ} {fs : List (List ℕ)} → BusField (r .bus) f → FromMark r fs → FromBus r true (f ∷ fs)
 
--- From the offset on: one digit behind the point in version 1.1, where the bus is 0; three in version 1.2, where the bus follows.
-pub data FromOffset (r : Record) : ℕ → List (List ℕ) → Type 0 where
-  one : {f : List ℕ} {fs : List (List ℕ)} → OffsetField 1 (r .offset) f → r .bus ≡ 0 → FromMark r fs → FromOffset r 11 (f ∷ fs)
-  three : {f : List ℕ} {fs : List (List ℕ)} → OffsetField 3 (r .offset) f → FromBus r fs → FromOffset r 12 (f ∷ fs)
+-- From the offset on: as many digits behind its point as the version says.
+pub data FromOffset (r : Record) (v : ℕ) : List (List ℕ) → Type 0 where
+  offset : {f : List ℕ} {fs : List (List ℕ)} → Version v → OffsetField (fractionDigits v) (r .offset) f → FromBus r (hasBus v) fs
+      → FromOffset r v (f ∷ fs)
 
--- The fields are the row with number k and record r in version v, 11 or 12.
+-- The fields are the row with number k and record r in version v.
 pub data RowFields (v k : ℕ) (r : Record) : List (List ℕ) → Type 0 where
   number : {f : List ℕ} {fs : List (List ℕ)} → NumberField k f → FromOffset r v fs → RowFields v k r (f ∷ fs)
 

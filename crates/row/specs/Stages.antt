@@ -11,6 +11,7 @@ use Rattle.row.specs.declared.Stage.the-variants as stage
 use Rattle.row.specs.declared.Part.{Part}
 use Rattle.row.specs.declared.Step.{Step}
 use Rattle.fields.specs.Window.{FieldAt}
+use Rattle.row.specs.Versions.{Version}
 use Rattle.row.specs.Row.{
   FromOffset,
   FromBus,
@@ -67,9 +68,8 @@ pub record GathersSecond (p : Part) (fs : List (List ℕ)) (r : Record) : Type 0
   pub total : r .«data» ≡ p .r .«data» + sum
 
 abbrev pub continues : Stage → Part → List (List ℕ) → Record → Type 0
-continues stage.Offset11 p fs r = FromOffset r 11 fs
-continues stage.Offset12 p fs r = FromOffset r 12 fs
-continues stage.Bus p fs r = (r .offset ≡ p .r .offset) × FromBus r fs
+continues (stage.Offset v) p fs r = FromOffset r v fs
+continues stage.Bus p fs r = (r .offset ≡ p .r .offset) × FromBus r true fs
 continues stage.Mark p fs r = (known2 r ≡ known2 (p .r)) × FromMark r fs
 continues stage.Id p fs r = (known2 r ≡ known2 (p .r)) × FrameId (p .r .kind) r fs
 continues stage.Length p fs r = (known4 r ≡ known4 (p .r)) × FrameLength (p .r .kind) r fs
@@ -87,10 +87,9 @@ continues stage.ErrorSecond p fs r = GathersSecond p fs r
 abbrev pub Continues : Part → List (List ℕ) → Record → Type 0
 Continues p fs r = continues (p .stage) p fs r
 
--- What holds of every state that is reached: the data so far leaves room for the bytes that are left.
+-- What holds of every state that is reached: the version is one, and the data so far leaves room for the bytes that are left.
 abbrev pub good : Stage → Part → Type 0
-good stage.Offset11 p = p .r .«data» ≡ 0
-good stage.Offset12 p = p .r .«data» ≡ 0
+good (stage.Offset v) p = Version v × (p .r .«data» ≡ 0)
 good stage.Bus p = p .r .«data» ≡ 0
 good stage.Mark p = p .r .«data» ≡ 0
 good stage.Id p = (p .r .kind ≤ 1) × (p .r .«data» ≡ 0)

@@ -1,14 +1,21 @@
-// One row of a trace: the stages in which it is read. What each stage does to the state, field by field, is in `specs/Stages`, with a law for
-// each in `proofs/`; `row_reader` walks through them.
+// One row of a trace: what its version decides, and the stages in which it is read. What each stage does to the state, field by field, is in
+// `specs/Stages`, with a law for each in `proofs/`; `row_reader` walks through them.
+mod versions;
+
 use record::Record;
+pub use versions::carries;
+pub use versions::fraction_digits;
+pub use versions::has_bus;
+pub use versions::head_lines;
+pub use versions::is_version;
 
 // The place value of the first of eight data bytes: 256 ^ 7.
 pub const FIRST_PLACE: u64 = 72057594037927936;
 
-// Where the reader is in the columns of a row behind its number: what the next field is.
+// Where the reader is in the columns of a row behind its number: what the next field is. Of the version only the offset depends, and whether a
+// bus follows it.
 pub enum Stage {
-    Offset11,
-    Offset12,
+    Offset(u64),
     Bus,
     Mark,
     Id,

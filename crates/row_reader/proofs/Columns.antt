@@ -3,6 +3,7 @@
 use Prim.Native.Nat.{ℕ, _+_, _*_, _-_, _/_, _^_, _≤_, _<_}
 use mathlib.Core.Path.{_≡_, refl}
 use mathlib.Core.Logic.{_≢_}
+use mathlib.Core.Bool.{true, false}
 use mathlib.Core.List.{List}
 use native.Mathlib.Omega.{arith}
 use native.Mathlib.Nat.{zero-add}
@@ -15,13 +16,13 @@ use Rattle.fields.specs.Window.{Takes, taken, not, HexField, MarkField}
 use Rattle.record.specs.declared.Record.{Record}
 use Rattle.record.specs.Record.{ErrorId, Position}
 use Rattle.row.specs.declared.Stage.the-variants as stage
+use Rattle.row.specs.Versions.{Version, fractionDigits, hasBus}
 use Rattle.row.specs.Row
 use Rattle.row.specs.Stages.{Steps, Continues, one-byte, no-byte}
 use Rattle.row.proofs.Columns.{
   behind,
   after-number,
-  after-one,
-  after-three,
+  after-offset,
   after-bus,
   after-id,
   after-length,
@@ -29,8 +30,8 @@ use Rattle.row.proofs.Columns.{
   some-id,
   number-barred,
   number-went,
-  offset11-went,
-  offset12-went,
+  offset-went,
+  offset-bus-went,
   bus-went,
   mark-frame,
   mark-warning,
@@ -84,19 +85,16 @@ module _ {w : List ℕ} {at k : ℕ} {s : Scan} (t : Takes NumberField w at s) (
   pub number-none : {version : ℕ} → s .end ≢ 0 → s .value ≢ k → Steps w at (λ fs r. Row.RowFields version k r fs) (behind 0 stage.Mark 0 0 (seen out 0))
   number-none n f = number-barred _ (got t n) refl f
 
-  pub number-11 : s .end ≢ 0 → s .value ≡ k → Steps w at (λ fs r. Row.RowFields 11 k r fs) (behind (s .end) stage.Offset11 0 0 (seen out 0))
-  number-11 n e = number-went _ (got t n) refl e refl (λ fs r. refl)
+  pub number-on : {version : ℕ} → s .end ≢ 0 → s .value ≡ k → Version version
+      → Steps w at (λ fs r. Row.RowFields version k r fs) (behind (s .end) (stage.Offset version) 0 0 (seen out 0))
+  number-on n e v = number-went _ (got t n) refl e (v, refl) (λ fs r. refl)
 
-  pub number-12 : s .end ≢ 0 → s .value ≡ k → Steps w at (λ fs r. Row.RowFields 12 k r fs) (behind (s .end) stage.Offset12 0 0 (seen out 0))
-  number-12 n e = number-went _ (got t n) refl e refl (λ fs r. refl)
-
-versions : {v k : ℕ} {r : Record} {fs : List (List ℕ)} → Row.RowFields v k r fs → (v ≡ 11 → ⊥) → (v ≡ 12 → ⊥) → ⊥
-versions (Row.number n (Row.one o b m)) p q = p refl
-versions (Row.number n (Row.three o b)) p q = q refl
-
--- No row is of another version.
-pub no-version : {v k : ℕ} (w : List ℕ) (at : ℕ) {out : List ℕ} → (v ≡ 11 → ⊥) → (v ≡ 12 → ⊥) → GoesRow v k w at out 0
-no-version w at p q line l = none-found refl (λ fs r ps c. versions c p q)
+-- A row is of some version.
+pub no-version : {v k : ℕ} (w : List ℕ) (at : ℕ) {out : List ℕ} → (Version v → ⊥) → GoesRow v k w at out 0
+no-version w at f line l = none-found refl (λ fs r ps c. f (version-of c))
+  where
+    version-of : {v k : ℕ} {r : Record} {fs : List (List ℕ)} → Row.RowFields v k r fs → Version v
+    version-of (Row.number n (Row.offset v o b)) = v
 
 -- Where no byte is left.
 pub byte-off : {w : List ℕ} {at left place word : ℕ} {out : List ℕ} → Ready stage.Bytes left place word out → left ≡ 0
@@ -104,26 +102,21 @@ pub byte-off : {w : List ℕ} {at left place word : ℕ} {out : List ℕ} → Re
 byte-off {left = left} {place = place} {word = word} {out = out} g n = bytes-barred (known stage.Bytes left place word out) _ n refl
 
 module _ {w : List ℕ} {at : ℕ} {s : Scan} {out : List ℕ} where
-  -- The offset in version 1.1.
-  module _ (g : Ready stage.Offset11 0 0 0 out) (t : Takes (OffsetField 1) w at s) where
-    pub offset11-off : s .end ≡ 0 → Steps w at (Continues (known stage.Offset11 0 0 0 out)) (behind 0 stage.Mark 0 0 (seen out 0))
-    offset11-off z = refused _ t z refl (λ f fs r h. (r .offset, after-one h .0))
+  -- The offset, with a bus behind it or none.
+  module _ {v n : ℕ} (g : Ready (stage.Offset v) 0 0 0 out) (d : n ≡ fractionDigits v) (t : Takes (OffsetField n) w at s) where
+    pub offset-off : s .end ≡ 0 → Steps w at (Continues (known (stage.Offset v) 0 0 0 out)) (behind 0 stage.Mark 0 0 (seen out 0))
+    offset-off z = refused _ (rw d at t) z refl (λ f fs r h. (r .offset, after-offset h .0))
 
-    pub offset11-on : {mid new : List ℕ} → s .end ≢ 0 → Puts 0 (s .value) out mid → Puts 1 0 mid new
-        → Steps w at (Continues (known stage.Offset11 0 0 0 out)) (behind (s .end) stage.Mark 0 0 (seen new 0))
-    offset11-on {mid} {new} n u v =
-        let x = u .slots in
-        let y = v .slots in
-        offset11-went (known stage.Offset11 0 0 0 out) (seen new 0) (cc (x, y)) (cc (x, y)) refl (got t n)
+    pub offset-on : {mid new : List ℕ} → s .end ≢ 0 → hasBus v ≡ false → Puts 0 (s .value) out mid → Puts 1 0 mid new
+        → Steps w at (Continues (known (stage.Offset v) 0 0 0 out)) (behind (s .end) stage.Mark 0 0 (seen new 0))
+    offset-on {mid} {new} z b p q =
+        let x = p .slots in
+        let y = q .slots in
+        offset-went (known (stage.Offset v) 0 0 0 out) (g .good .0) (got (rw d at t) z) b (seen new 0) (cc (x, y)) (cc (x, y)) refl
 
-  -- The offset in version 1.2.
-  module _ (g : Ready stage.Offset12 0 0 0 out) (t : Takes (OffsetField 3) w at s) where
-    pub offset12-off : s .end ≡ 0 → Steps w at (Continues (known stage.Offset12 0 0 0 out)) (behind 0 stage.Bus 0 0 (seen out 0))
-    offset12-off z = refused _ t z refl (λ f fs r h. (r .offset, after-three h .0))
-
-    pub offset12-on : {new : List ℕ} → s .end ≢ 0 → Puts 0 (s .value) out new
-        → Steps w at (Continues (known stage.Offset12 0 0 0 out)) (behind (s .end) stage.Bus 0 0 (seen new 0))
-    offset12-on {new} n u = let x = u .slots in offset12-went (known stage.Offset12 0 0 0 out) (seen new 0) (cc (x)) refl (got t n)
+    pub offset-bus-on : {new : List ℕ} → s .end ≢ 0 → hasBus v ≡ true → Puts 0 (s .value) out new
+        → Steps w at (Continues (known (stage.Offset v) 0 0 0 out)) (behind (s .end) stage.Bus 0 0 (seen new 0))
+    offset-bus-on {new} z b p = let x = p .slots in offset-bus-went (known (stage.Offset v) 0 0 0 out) (g .good .0) (got (rw d at t) z) b (seen new 0) (cc (x)) refl
 
   -- The bus.
   module _ (g : Ready stage.Bus 0 0 0 out) (t : Takes BusField w at s) where

@@ -6,6 +6,9 @@ use crate::warning::gap_warning_id;
 use fields::WINDOW;
 use fields::at_end;
 use fields::skip_in;
+use row::fraction_digits;
+use row::has_bus;
+use row::is_version;
 ghost use lib.ListN.{drop};
 ghost use Rattle.fields.specs.Window.{Lined, Starts};
 ghost use Rattle.row.specs.declared.Stage.the-variants as stage;
@@ -35,62 +38,39 @@ fn field_number(w: &[u8; WINDOW], at: usize, version: u64, k: u64, out: &mut [u6
     if s.value != k {
         return 0;
     }
-    match version {
-        11 => gap_offset11(w, e, out),
-        12 => gap_offset12(w, e, out),
-        _ => 0,
+    if !is_version(version) {
+        return 0;
     }
+    gap_offset(w, e, version, out)
 }
 
-// The offset in version 1.1, where the bus is 0.
-pub fn gap_offset11(w: &[u8; WINDOW], at: usize, out: &mut [u64; 7]) -> usize
-    requires { ⌜ Lined (drop at (now w)) × Ready stage.Offset11 0 0 0 (now out) ⌝ }
-    ensures { λ e. ⌜ Goes (known stage.Offset11 0 0 0 (now (out .entry))) (now (w .entry)) at (now (out .exit)) e ⌝ }
+// The offset, and, where the version has no bus, bus 0.
+pub fn gap_offset(w: &[u8; WINDOW], at: usize, version: u64, out: &mut [u64; 7]) -> usize
+    requires { ⌜ Lined (drop at (now w)) × Ready (stage.Offset version) 0 0 0 (now out) ⌝ }
+    ensures { λ e. ⌜ Goes (known (stage.Offset version) 0 0 0 (now (out .entry))) (now (w .entry)) at (now (out .exit)) e ⌝ }
 {
     let a = skip_in(w, at);
     if at_end(w, a) {
         return 0;
     }
-    field_offset11(w, a, out)
+    field_offset(w, a, version, out)
 }
 
-fn field_offset11(w: &[u8; WINDOW], at: usize, out: &mut [u64; 7]) -> usize
-    requires { ⌜ Starts (now w) at × Ready stage.Offset11 0 0 0 (now out) ⌝ }
-    ensures { λ e. ⌜ Goes (known stage.Offset11 0 0 0 (now (out .entry))) (now (w .entry)) at (now (out .exit)) e ⌝ }
+fn field_offset(w: &[u8; WINDOW], at: usize, version: u64, out: &mut [u64; 7]) -> usize
+    requires { ⌜ Starts (now w) at × Ready (stage.Offset version) 0 0 0 (now out) ⌝ }
+    ensures { λ e. ⌜ Goes (known (stage.Offset version) 0 0 0 (now (out .entry))) (now (w .entry)) at (now (out .exit)) e ⌝ }
 {
-    let s = fields::offset_field(w, at, 1);
+    let s = fields::offset_field(w, at, fraction_digits(version));
     let e = s.end;
     if e == 0 {
         return 0;
     }
     put(out, 0, s.value);
+    if has_bus(version) {
+        return gap_bus(w, e, out);
+    }
     put(out, 1, 0);
     gap_mark(w, e, out)
-}
-
-// The offset in version 1.2.
-pub fn gap_offset12(w: &[u8; WINDOW], at: usize, out: &mut [u64; 7]) -> usize
-    requires { ⌜ Lined (drop at (now w)) × Ready stage.Offset12 0 0 0 (now out) ⌝ }
-    ensures { λ e. ⌜ Goes (known stage.Offset12 0 0 0 (now (out .entry))) (now (w .entry)) at (now (out .exit)) e ⌝ }
-{
-    let a = skip_in(w, at);
-    if at_end(w, a) {
-        return 0;
-    }
-    field_offset12(w, a, out)
-}
-
-fn field_offset12(w: &[u8; WINDOW], at: usize, out: &mut [u64; 7]) -> usize
-    requires { ⌜ Starts (now w) at × Ready stage.Offset12 0 0 0 (now out) ⌝ }
-    ensures { λ e. ⌜ Goes (known stage.Offset12 0 0 0 (now (out .entry))) (now (w .entry)) at (now (out .exit)) e ⌝ }
-{
-    let s = fields::offset_field(w, at, 3);
-    let e = s.end;
-    if e == 0 {
-        return 0;
-    }
-    put(out, 0, s.value);
-    gap_bus(w, e, out)
 }
 
 // The bus.

@@ -16,6 +16,7 @@ ghost use mathlib.Core.List.{List, _∷_, _++_};
 ghost use Prim.Native.Nat.{ℕ, _+_, _<_};
 ghost use lib.ListN.{length, drop};
 ghost use Rattle.fields.specs.Window.{windowBytes, LineOf, Lined};
+ghost use Rattle.base.specs.Text.{cr};
 ghost use Rattle.row_reader.specs.Answer.{ReadsRow, RowFound};
 
 // A record, or not a row.
@@ -36,7 +37,7 @@ pub fn row_in(w: &[u8; WINDOW], at: usize, version: u64, k: u64, out: &mut [u64;
 // Puts bytes at the front of a window, and CR behind them.
 pub fn window(s: &[u8], w: &mut [u8; WINDOW])
     requires { ⌜ length (now s) < windowBytes ⌝ }
-    ensures { λ _. ⌜ now (w .exit) ≡ now (s .entry) ++ (13 ∷ drop (length (now (s .entry)) + 1) (now (w .entry))) ⌝ }
+    ensures { λ _. ⌜ now (w .exit) ≡ now (s .entry) ++ (cr ∷ drop (length (now (s .entry)) + 1) (now (w .entry))) ⌝ }
 {
     let slots: &mut [u8] = w;
     let n = s.len();
@@ -45,7 +46,7 @@ pub fn window(s: &[u8], w: &mut [u8; WINDOW])
         slots[i] = s[i];
         i += 1;
     }
-    slots[n] = 13;
+    slots[n] = b'\r';
 }
 
 // A window to be filled. Of its bytes nothing is promised, which would be told one by one.

@@ -1,54 +1,47 @@
 -- The text of each column, by the tests that the writer makes.
-use Prim.Native.Nat.{ℕ, zero, suc, _+_, _*_, _/_, _%_, _^_, _≤_, _<_}
+use Prim.Native.Nat.{ℕ, zero, suc, _+_, _*_, _/_, _%_, _≤_, _<_}
 use mathlib.Core.Path.{_≡_, refl, ap, _∙_}
-use mathlib.Core.Logic.{⊎-elim}
+use mathlib.Core.Logic.{_≢_, ⊎-elim}
+use mathlib.Core.Bool.{true, false}
 use mathlib.Core.List.{[], _∷_, _++_, append-nil}
 use native.Mathlib.Nat.{div-one}
 use native.Mathlib.Omega.{arith}
 use borrow.Author.Tests.{eq-eqb, ne-eqb}
 use lib.ListN.{length, length-append}
+use Rattle.base.specs.Spaced.{spaced}
 use Rattle.base.proofs.Numbers.{below-or-not}
-use Rattle.digits.specs.declared.Letters.the-variants.{Capital}
-use Rattle.digits.specs.House.{decimalText, paddedText, hexText}
+use Rattle.base.proofs.Spaced.{spaced-none, spaced-more}
+use Rattle.digits.specs.House.{decimalText, paddedText}
 use Rattle.digits.proofs.House.{length-fixed}
 use Rattle.record.specs.declared.Record.{Record}
 use Rattle.fields.specs.Columns.{markWarng, markError, remoteText}
-use Rattle.row.specs.House.{fractionDigits, numberText, offsetText, busTexts, markText, idText, byteTexts, dataTexts}
-use Rattle.row_writer.specs.Parts.{spaced}
-use Rattle.row_writer.proofs.Rows.{spaced-none, spaced-more}
-
-pub number : (k : ℕ) → numberText k ≡ decimalText k ++ (41 ∷ [])
-unfolding numberText
-number k = refl
+use Rattle.row.specs.House.{numberText, offsetText, busTexts, markText, idText, dataTexts}
+use Rattle.row.specs.Versions.{fractionDigits, hasBus}
+use Rattle.row.proofs.EachVersion.{digits-known}
+use Rattle.row.proofs.Texts.{number-text, offset-text, id-warning, id-frame, data-remote}
 
 pub length-number : (k : ℕ) → length (numberText k) ≡ length (decimalText k) + 1
-length-number k = rw (number, length-append)
+length-number k = rw (number-text, length-append)
 
-pub offset-11 : (v n : ℕ) → v ≡ 11 → offsetText v n ≡ decimalText (n / 1000) ++ (46 ∷ paddedText 1 (n % 1000 / 100))
-unfolding offsetText
-offset-11 v n e = rw (eq-eqb v 11 e)
+pub offset-one : (v n : ℕ) → fractionDigits v ≡ 1 → offsetText v n ≡ decimalText (n / 1000) ++ (46 ∷ paddedText 1 (n % 1000 / 100))
+offset-one v n e = rw (offset-text, e)
 
-pub offset-12 : (v n : ℕ) → (v ≡ 11 → ⊥) → offsetText v n ≡ decimalText (n / 1000) ++ (46 ∷ paddedText 3 (n % 1000))
-unfolding offsetText
-offset-12 v n f = rw (ne-eqb v 11 f, div-one)
+pub offset-three : (v n : ℕ) → fractionDigits v ≡ 3 → offsetText v n ≡ decimalText (n / 1000) ++ (46 ∷ paddedText 3 (n % 1000))
+offset-three v n e = rw (offset-text, e, div-one)
 
 pub length-offset : (v n : ℕ) → length (offsetText v n) ≡ length (decimalText (n / 1000)) + suc (fractionDigits v)
-unfolding offsetText
-length-offset v n = rw (length-append, length-fixed)
+length-offset v n = rw (offset-text, length-append, length-fixed)
 
-pub digits-11 : (v : ℕ) → v ≡ 11 → fractionDigits v ≡ 1
-digits-11 v e = rw (eq-eqb v 11 e)
+pub three-digits : (v : ℕ) → fractionDigits v ≢ 1 → fractionDigits v ≡ 3
+three-digits v f = ⊎-elim (λ e. absurd (f e)) (λ e. e) (digits-known v)
 
-pub digits-12 : (v : ℕ) → (v ≡ 11 → ⊥) → fractionDigits v ≡ 3
-digits-12 v f = rw (ne-eqb v 11 f)
-
-pub bus-11 : (v n : ℕ) → v ≡ 11 → spaced (busTexts v n) ≡ []
+pub with-bus : (v n : ℕ) → hasBus v ≡ true → spaced (busTexts v n) ≡ 32 ∷ decimalText n
 unfolding busTexts
-bus-11 v n e = rw (eq-eqb v 11 e, spaced-none)
+with-bus v n e = rw (e, spaced-more, spaced-none, append-nil (decimalText n))
 
-pub bus-12 : (v n : ℕ) → (v ≡ 11 → ⊥) → spaced (busTexts v n) ≡ 32 ∷ decimalText n
+pub without-bus : (v n : ℕ) → hasBus v ≡ false → spaced (busTexts v n) ≡ []
 unfolding busTexts
-bus-12 v n f = rw (ne-eqb v 11 f, spaced-more, spaced-none, append-nil (decimalText n))
+without-bus v n e = rw (e, spaced-none)
 
 pub frame-mark : (kind : ℕ) → kind < 4 → markText kind ≡ (82 + 2 * (kind % 2)) ∷ 120 ∷ []
 unfolding markText
@@ -72,24 +65,11 @@ short-mark kind h = ap length (frame-mark kind h)
 pub long-mark : (kind : ℕ) → 4 ≤ kind → kind ≤ 5 → length (markText kind) ≡ 5
 long-mark kind h l = ⊎-elim (λ p. ap length (warng kind (omega arith))) (λ p. ap length (error kind (omega arith))) (below-or-not kind 5)
 
-pub warning-id : (r : Record) → r .kind ≡ 4 → idText r ≡ hexText Capital 8 0xFFFFFFFF
-unfolding idText
-warning-id r e = rw (eq-eqb (r .kind) 4 e)
+pub length-warning-id : (r : Record) → r .kind ≡ 4 → length (idText r) ≡ 8
+length-warning-id r e = rw (id-warning r e, length-fixed)
 
-pub frame-id : (r : Record) → (r .kind ≡ 4 → ⊥) → idText r ≡ hexText Capital (4 + 4 * r .extended) (r .id)
-unfolding idText
-frame-id r f = rw (ne-eqb (r .kind) 4 f)
-
-pub extended-id : (r : Record) → (r .kind ≡ 4 → ⊥) → r .extended ≡ 1 → idText r ≡ hexText Capital 8 (r .id)
-extended-id r f e = frame-id r f ∙ rw e
-
-pub standard-id : (r : Record) → (r .kind ≡ 4 → ⊥) → r .extended ≡ 0 → idText r ≡ hexText Capital 4 (r .id)
-standard-id r f e = frame-id r f ∙ rw e
+pub length-frame-id : (r : Record) → (r .kind ≡ 4 → ⊥) → length (idText r) ≡ 4 + 4 * r .extended
+length-frame-id r f = rw (id-frame r f, length-fixed)
 
 pub remote-data : (r : Record) → r .kind / 2 ≡ 1 → spaced (dataTexts r) ≡ 32 ∷ remoteText
-unfolding dataTexts
-remote-data r e = rw (eq-eqb (r .kind / 2) 1 e, spaced-more, spaced-none)
-
-pub frame-data : (r : Record) → (r .kind / 2 ≡ 1 → ⊥) → dataTexts r ≡ byteTexts Capital (256 ^ 7) (r .len) (r .«data»)
-unfolding dataTexts
-frame-data r f = rw (ne-eqb (r .kind / 2) 1 f)
+remote-data r e = rw (data-remote r e, spaced-more, spaced-none)

@@ -1,29 +1,14 @@
 -- The row as the writer puts it together: the fields before the mark, then those from the mark on, each behind one blank.
 use Prim.Native.Nat.{ℕ, _+_}
-use mathlib.Core.Path.{_≡_, refl, ap, _∙_}
-use mathlib.Core.List.{List, [], _∷_, _++_, append-assoc, append-nil}
+use mathlib.Core.Path.{_≡_, ap, _∙_}
+use mathlib.Core.List.{List, _∷_, _++_, append-assoc}
 use native.Mathlib.Omega.{arith}
 use lib.ListN.{length, length-append}
+use Rattle.base.specs.Spaced.{spaced, joined}
+use Rattle.base.proofs.Spaced.{spaced-more, spaced-append, joined-more}
 use Rattle.record.specs.declared.Record.{Record}
-use Rattle.row.specs.House.{joined, numberText, offsetText, busTexts, markText, idText, dataTexts, rowTexts, rowText}
-use Rattle.row_writer.specs.Parts.{spaced, headTexts, frameTexts}
-
-pub spaced-none : spaced [] ≡ []
-unfolding spaced
-spaced-none = refl
-
-pub spaced-more : (f : List ℕ) (fs : List (List ℕ)) → spaced (f ∷ fs) ≡ (32 ∷ f) ++ spaced fs
-unfolding spaced
-spaced-more f fs = refl
-
-pub spaced-append : (fs gs : List (List ℕ)) → spaced (fs ++ gs) ≡ spaced fs ++ spaced gs
-spaced-append [] gs = rw spaced-none
-spaced-append (f ∷ fs) gs = rw (spaced-more, spaced-more, append-assoc, spaced-append fs gs)
-
-pub joined-more : (f : List ℕ) (fs : List (List ℕ)) → joined (f ∷ fs) ≡ f ++ spaced fs
-unfolding joined
-joined-more f [] = rw (spaced-none, append-nil)
-joined-more f (g ∷ fs) = rw spaced-more (ap (λ (t : List ℕ). f ++ (32 ∷ t)) (joined-more g fs))
+use Rattle.row.specs.House.{numberText, offsetText, busTexts, markText, idText, dataTexts, frameTexts, rowTexts, rowText}
+use Rattle.row_writer.specs.Parts.{headTexts}
 
 -- The row is what is written.
 

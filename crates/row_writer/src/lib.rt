@@ -1,35 +1,30 @@
 // The row writer: a record as a row of a trace, as the house spells it, and how many bytes that is.
 use base::put_byte;
+use base::put_three;
 use digits::Letters;
 use digits::decimal_length;
 use digits::put_decimal;
 use digits::put_hex;
 use digits::put_kept;
 use digits::put_padded;
+use digits::put_pairs;
 use record::Record;
+use row::fraction_digits;
+use row::has_bus;
 ghost use mathlib.Core.Path.{_≡_};
-ghost use mathlib.Core.List.{[], _∷_};
-ghost use Prim.Native.Nat.{_+_, _*_, _/_, _^_, _≤_, _<_};
+ghost use mathlib.Core.List.{_∷_};
+ghost use Prim.Native.Nat.{_+_, _/_, _≤_};
 ghost use lib.ListN.{length};
+ghost use Rattle.base.specs.Spaced.{spaced, joined};
+ghost use Rattle.base.specs.Text.{blank};
 ghost use Rattle.base.specs.Wrote.{Wrote};
-ghost use Rattle.digits.specs.declared.Letters.{Letters};
 ghost use Rattle.digits.specs.declared.Letters.the-variants.{Capital};
-ghost use Rattle.digits.specs.House.{hexText, PairsOf, Kept};
+ghost use Rattle.digits.specs.House.{PairsOf, Kept};
 ghost use Rattle.fields.specs.Columns.{lastNumber};
 ghost use Rattle.record.specs.Record.{WellFormed};
-ghost use Rattle.row.specs.Carries.{Carries};
-ghost use Rattle.row.specs.House.{joined, numberText, offsetText, busTexts, markText, idText, byteTexts, dataTexts, rowText};
-ghost use Rattle.row_writer.specs.Parts.{spaced, headTexts, frameTexts};
-
-// Puts three bytes.
-fn put_three(out: &mut [u8], at: usize, a: u8, b: u8, c: u8) -> usize
-    requires { ⌜ at + 3 ≤ length (now out) ⌝ }
-    ensures { λ r. ⌜ Wrote (now (out .entry)) (now (out .exit)) at r (a ∷ b ∷ c ∷ []) ⌝ }
-{
-    let p = put_byte(out, at, a);
-    let q = put_byte(out, p, b);
-    put_byte(out, q, c)
-}
+ghost use Rattle.row.specs.House.{numberText, offsetText, busTexts, markText, idText, dataTexts, frameTexts, rowText};
+ghost use Rattle.row_writer.specs.Parts.{headTexts};
+ghost use Rattle.row.specs.Versions.{Carries};
 
 // Row number and `)`. Its digits before the last are at hand: the first t of `tens`.
 fn put_number(out: &mut [u8], at: usize, k: u64, tens: &[u8; 20], t: usize) -> usize
@@ -38,7 +33,7 @@ fn put_number(out: &mut [u8], at: usize, k: u64, tens: &[u8; 20], t: usize) -> u
     ensures { λ r. ⌜ Wrote (now (out .entry)) (now (out .exit)) at r (numberText k) ⌝ }
 {
     let p = put_kept(out, at, k, k / 10, tens, t);
-    put_byte(out, p, 41)
+    put_byte(out, p, b')')
 }
 
 fn number_length(k: u64) -> usize
@@ -47,8 +42,7 @@ fn number_length(k: u64) -> usize
     decimal_length(k) + 1
 }
 
-// Offset in milliseconds: one digit behind the point in version 1.1, three in version 1.2. The digits of its whole seconds are at hand: the first
-// u of `seconds`.
+// Offset in milliseconds, with one digit behind the point or three. The digits of its whole seconds are at hand: the first u of `seconds`.
 fn put_offset(
     out: &mut [u8],
     at: usize,
@@ -57,36 +51,32 @@ fn put_offset(
     seconds: &[u8; 20],
     u: usize,
 ) -> usize
-    requires { ⌜ at + length (32 ∷ offsetText version offset) ≤ length (now out) ⌝ }
+    requires { ⌜ at + length (blank ∷ offsetText version offset) ≤ length (now out) ⌝ }
     requires { ⌜ Kept (offset / 1000 / 1000) (now seconds) u ⌝ }
-    ensures { λ r. ⌜ Wrote (now (out .entry)) (now (out .exit)) at r (32 ∷ offsetText version offset) ⌝ }
+    ensures { λ r. ⌜ Wrote (now (out .entry)) (now (out .exit)) at r (blank ∷ offsetText version offset) ⌝ }
 {
-    let p = put_byte(out, at, 32);
+    let p = put_byte(out, at, b' ');
     let q = put_kept(out, p, offset / 1000, offset / 1000 / 1000, seconds, u);
-    let s = put_byte(out, q, 46);
-    if version == 11 {
+    let s = put_byte(out, q, b'.');
+    if fraction_digits(version) == 1 {
         return put_padded(out, s, 1, offset % 1000 / 100);
     }
     put_padded(out, s, 3, offset % 1000)
 }
 
 fn offset_length(version: u64, offset: u64) -> usize
-    ensures { λ r. ⌜ (r ≡ length (32 ∷ offsetText version offset)) × (r ≤ 25) ⌝ }
+    ensures { λ r. ⌜ (r ≡ length (blank ∷ offsetText version offset)) × (r ≤ 25) ⌝ }
 {
-    let whole = decimal_length(offset / 1000);
-    if version == 11 {
-        return whole + 3;
-    }
-    whole + 5
+    decimal_length(offset / 1000) + 2 + fraction_digits(version)
 }
 
-// The bus, in version 1.2 only.
+// The bus, where the version has one.
 fn put_bus(out: &mut [u8], at: usize, version: u64, bus: u64) -> usize
     requires { ⌜ at + length (spaced (busTexts version bus)) ≤ length (now out) ⌝ }
     ensures { λ r. ⌜ Wrote (now (out .entry)) (now (out .exit)) at r (spaced (busTexts version bus)) ⌝ }
 {
-    if version != 11 {
-        let p = put_byte(out, at, 32);
+    if has_bus(version) {
+        let p = put_byte(out, at, b' ');
         return put_decimal(out, p, bus);
     }
     at
@@ -95,32 +85,32 @@ fn put_bus(out: &mut [u8], at: usize, version: u64, bus: u64) -> usize
 fn bus_length(version: u64, bus: u64) -> usize
     ensures { λ r. ⌜ (r ≡ length (spaced (busTexts version bus))) × (r ≤ 21) ⌝ }
 {
-    if version == 11 {
-        return 0;
+    if has_bus(version) {
+        return decimal_length(bus) + 1;
     }
-    decimal_length(bus) + 1
+    0
 }
 
-// `Rx`, `Tx`, `Warng` or `Error`. No branch tells `R`, byte 82, from `T`, byte 84: rows mix the two, and a branch that cannot be
+// `Rx`, `Tx`, `Warng` or `Error`. No branch tells `R` from `T`, which is two behind it: rows mix the two, and a branch that cannot be
 // predicted is slow.
 fn put_mark(out: &mut [u8], at: usize, kind: u64) -> usize
-    requires { ⌜ (kind ≤ 5) × (at + length (32 ∷ markText kind) ≤ length (now out)) ⌝ }
-    ensures { λ r. ⌜ Wrote (now (out .entry)) (now (out .exit)) at r (32 ∷ markText kind) ⌝ }
+    requires { ⌜ (kind ≤ 5) × (at + length (blank ∷ markText kind) ≤ length (now out)) ⌝ }
+    ensures { λ r. ⌜ Wrote (now (out .entry)) (now (out .exit)) at r (blank ∷ markText kind) ⌝ }
 {
     if kind < 4 {
-        return put_three(out, at, 32, 82 + 2 * (kind % 2) as u8, 120);
+        return put_three(out, at, b' ', b'R' + 2 * (kind % 2) as u8, b'x');
     }
     if kind == 4 {
-        let p = put_three(out, at, 32, 87, 97);
-        return put_three(out, p, 114, 110, 103);
+        let p = put_three(out, at, b' ', b'W', b'a');
+        return put_three(out, p, b'r', b'n', b'g');
     }
-    let q = put_three(out, at, 32, 69, 114);
-    put_three(out, q, 114, 111, 114)
+    let q = put_three(out, at, b' ', b'E', b'r');
+    put_three(out, q, b'r', b'o', b'r')
 }
 
 fn mark_length(kind: u64) -> usize
     requires { ⌜ kind ≤ 5 ⌝ }
-    ensures { λ r. ⌜ (r ≡ length (32 ∷ markText kind)) × (r ≤ 6) ⌝ }
+    ensures { λ r. ⌜ (r ≡ length (blank ∷ markText kind)) × (r ≤ 6) ⌝ }
 {
     if kind < 4 {
         return 3;
@@ -130,54 +120,24 @@ fn mark_length(kind: u64) -> usize
 
 // Eight F for a warning; else eight digits if extended, and four if not.
 fn put_id(out: &mut [u8], at: usize, r: Record) -> usize
-    requires { ⌜ (r .extended ≤ 1) × (at + length (32 ∷ idText r) ≤ length (now out)) ⌝ }
-    ensures { λ e. ⌜ Wrote (now (out .entry)) (now (out .exit)) at e (32 ∷ idText r) ⌝ }
+    requires { ⌜ (r .extended ≤ 1) × (at + length (blank ∷ idText r) ≤ length (now out)) ⌝ }
+    ensures { λ e. ⌜ Wrote (now (out .entry)) (now (out .exit)) at e (blank ∷ idText r) ⌝ }
 {
-    let p = put_byte(out, at, 32);
+    let p = put_byte(out, at, b' ');
     if r.kind == 4 {
         return put_hex(out, p, 8, 0xFFFFFFFF, Letters::Capital);
     }
-    if r.extended == 1 {
-        return put_hex(out, p, 8, r.id, Letters::Capital);
-    }
-    put_hex(out, p, 4, r.id, Letters::Capital)
+    put_hex(out, p, 4 + 4 * r.extended as usize, r.id, Letters::Capital)
 }
 
 fn id_length(r: Record) -> usize
     requires { ⌜ r .extended ≤ 1 ⌝ }
-    ensures { λ n. ⌜ (n ≡ length (32 ∷ idText r)) × (n ≤ 9) ⌝ }
+    ensures { λ n. ⌜ (n ≡ length (blank ∷ idText r)) × (n ≤ 9) ⌝ }
 {
     if r.kind == 4 {
         return 9;
     }
-    if r.extended == 1 {
-        return 9;
-    }
-    5
-}
-
-// One data byte, from the table of pairs: the calls of `put_hex` for each digit would double the time that a row takes.
-fn put_pair(out: &mut [u8], at: usize, b: u64, pairs: &[u8; 512]) -> usize
-    requires { ⌜ (b < 256) × (at + 3 ≤ length (now out)) ⌝ }
-    ensures { λ r. ⌜ ((x : Letters) → PairsOf x (now (pairs .entry)) → Wrote (now (out .entry)) (now (out .exit)) at r (32 ∷ hexText x 2 b)) ⌝ }
-    ensures { λ r. ⌜ r ≡ at + 3 ⌝ }
-{
-    let i = 2 * b as usize;
-    put_three(out, at, 32, pairs[i], pairs[i + 1])
-}
-
-// The first n of eight data bytes, each behind one blank, in the letter case of the table of pairs.
-pub fn put_pairs(out: &mut [u8], at: usize, n: u64, word: u64, pairs: &[u8; 512]) -> usize
-    requires { ⌜ (n ≤ 8) × (at + 3 * n ≤ length (now out)) ⌝ }
-    ensures { λ r. ⌜ ((x : Letters) → PairsOf x (now (pairs .entry)) → Wrote (now (out .entry)) (now (out .exit)) at r (spaced (byteTexts x (256 ^ 7) n word))) ⌝ }
-{
-    let mut p = at;
-    let mut j: u64 = 1;
-    while j <= n {
-        p = put_pair(out, p, (word >> (64 - 8 * j)) % 256, pairs);
-        j += 1;
-    }
-    p
+    5 + 4 * r.extended as usize
 }
 
 // `RTR` for a remote frame, else the bytes.
@@ -187,8 +147,8 @@ fn put_data(out: &mut [u8], at: usize, r: Record, pairs: &[u8; 512]) -> usize
     ensures { λ e. ⌜ Wrote (now (out .entry)) (now (out .exit)) at e (spaced (dataTexts r)) ⌝ }
 {
     if r.kind / 2 == 1 {
-        let p = put_byte(out, at, 32);
-        return put_three(out, p, 82, 84, 82);
+        let p = put_byte(out, at, b' ');
+        return put_three(out, p, b'R', b'T', b'R');
     }
     put_pairs(out, at, r.len, r.data, pairs)
 }
@@ -233,8 +193,8 @@ fn put_frame(out: &mut [u8], at: usize, r: Record, pairs: &[u8; 512]) -> usize
 {
     let p = put_mark(out, at, r.kind);
     let q = put_id(out, p, r);
-    let s = put_byte(out, q, 32);
-    let t = put_byte(out, s, 48 + r.len as u8);
+    let s = put_byte(out, q, b' ');
+    let t = put_byte(out, s, b'0' + r.len as u8);
     put_data(out, t, r, pairs)
 }
 

@@ -7,6 +7,7 @@ pub use print::byte;
 pub use print::bytes;
 pub use print::none;
 pub use print::number;
+pub use print::output;
 pub use print::rest;
 pub use print::shown;
 pub use print::text;

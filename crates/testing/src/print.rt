@@ -1,4 +1,5 @@
 // How answers are printed: numbers and bytes behind a blank each, texts in one line.
+use crate::words::front;
 use base::wide;
 use libc::STDOUT_FILENO;
 
@@ -40,9 +41,9 @@ fn escape(b: u8) {
 // A byte of a text: CR, LF and what is no printable letter as they are written in a case.
 fn letter(b: u8) {
     match b {
-        13 => escape(b'r'),
-        10 => escape(b'n'),
-        32..=126 => byte(b),
+        b'\r' => escape(b'r'),
+        b'\n' => escape(b'n'),
+        b' '..=b'~' => byte(b),
         _ => {
             escape(b'x');
             io::print_hex(STDOUT_FILENO, wide(b), 2);
@@ -91,4 +92,11 @@ pub fn rest(out: &[u8], from: usize) {
         return text(b" untouched");
     }
     text(b" touched");
+}
+
+// An output: its first n bytes as a text, and whether it is untouched behind them.
+pub fn output(out: &[u8], n: usize) {
+    byte(b' ');
+    shown(front(out, n));
+    rest(out, n);
 }

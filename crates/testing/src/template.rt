@@ -2,6 +2,7 @@
 // bytes (01, 02, ..), `_` for so many blanks, `*` for so many times the byte behind it, and `%` for a text that is given beside the line. A backslash
 // begins an escape. Nothing is put where there is no room.
 use crate::words::find;
+use base::put_byte;
 use base::put_text;
 use digits::Letters;
 use digits::decimal_length;
@@ -10,9 +11,12 @@ use digits::put_hex;
 use escapes::NOTHING;
 use escapes::after;
 use escapes::ended;
+ghost use Rattle.testing.specs.Putting.{PutOrNot, Puts};
 
 // Puts some bytes at a position, and gives the position after them.
-pub fn put(out: &mut [u8], at: usize, s: &[u8]) -> usize {
+pub fn put(out: &mut [u8], at: usize, s: &[u8]) -> usize
+    ensures { λ r. ⌜ PutOrNot (now (out .entry)) (now (out .exit)) at r (now (s .entry)) ⌝ }
+{
     if out.len() < at {
         return at;
     }
@@ -22,15 +26,18 @@ pub fn put(out: &mut [u8], at: usize, s: &[u8]) -> usize {
     put_text(out, at, s)
 }
 
-fn put_one(out: &mut [u8], at: usize, b: u8) -> usize {
+fn put_one(out: &mut [u8], at: usize, b: u8) -> usize
+    ensures { λ r. ⌜ Puts (now (out .entry)) (now (out .exit)) at r ⌝ }
+{
     if out.len() <= at {
         return at;
     }
-    out[at] = b;
-    at + 1
+    put_byte(out, at, b)
 }
 
-fn decimal(out: &mut [u8], at: usize, n: u64) -> usize {
+fn decimal(out: &mut [u8], at: usize, n: u64) -> usize
+    ensures { λ r. ⌜ Puts (now (out .entry)) (now (out .exit)) at r ⌝ }
+{
     if out.len() < at {
         return at;
     }
@@ -40,7 +47,9 @@ fn decimal(out: &mut [u8], at: usize, n: u64) -> usize {
     put_decimal(out, at, n)
 }
 
-fn hexadecimal(out: &mut [u8], at: usize, width: usize, n: u64) -> usize {
+fn hexadecimal(out: &mut [u8], at: usize, width: usize, n: u64) -> usize
+    ensures { λ r. ⌜ Puts (now (out .entry)) (now (out .exit)) at r ⌝ }
+{
     if out.len() < at {
         return at;
     }
@@ -51,7 +60,9 @@ fn hexadecimal(out: &mut [u8], at: usize, width: usize, n: u64) -> usize {
 }
 
 // Puts a byte n times.
-fn repeated(out: &mut [u8], at: usize, b: u8, n: u64) -> usize {
+fn repeated(out: &mut [u8], at: usize, b: u8, n: u64) -> usize
+    ensures { λ r. ⌜ Puts (now (out .entry)) (now (out .exit)) at r ⌝ }
+{
     let mut p = at;
     let mut i = 0;
     while i < n {
@@ -62,7 +73,9 @@ fn repeated(out: &mut [u8], at: usize, b: u8, n: u64) -> usize {
 }
 
 // Puts n data bytes, each behind a blank.
-fn data(out: &mut [u8], at: usize, n: u64) -> usize {
+fn data(out: &mut [u8], at: usize, n: u64) -> usize
+    ensures { λ r. ⌜ Puts (now (out .entry)) (now (out .exit)) at r ⌝ }
+{
     let mut p = at;
     let mut i = 0;
     while i < n {
@@ -74,7 +87,9 @@ fn data(out: &mut [u8], at: usize, n: u64) -> usize {
 }
 
 // Puts what a byte of a line stands for by itself.
-fn alone(out: &mut [u8], at: usize, b: u8, n: u64) -> usize {
+fn alone(out: &mut [u8], at: usize, b: u8, n: u64) -> usize
+    ensures { λ r. ⌜ Puts (now (out .entry)) (now (out .exit)) at r ⌝ }
+{
     match b {
         b'#' => decimal(out, at, n),
         b'@' => hexadecimal(out, at, 2, n),
@@ -88,7 +103,9 @@ fn alone(out: &mut [u8], at: usize, b: u8, n: u64) -> usize {
 }
 
 // Puts what a byte of a line stands for behind others: what was begun by them, and a star if the last of them is one.
-fn next(out: &mut [u8], at: usize, begun: u64, star: bool, b: u8, n: u64) -> usize {
+fn next(out: &mut [u8], at: usize, begun: u64, star: bool, b: u8, n: u64) -> usize
+    ensures { λ r. ⌜ Puts (now (out .entry)) (now (out .exit)) at r ⌝ }
+{
     if after(begun, b) != NOTHING {
         return at;
     }
@@ -110,7 +127,9 @@ fn is_star(begun: u64, b: u8) -> bool {
 }
 
 // Puts a line without `%`, and gives the position after it.
-fn plain(out: &mut [u8], at: usize, line: &[u8], n: u64) -> usize {
+fn plain(out: &mut [u8], at: usize, line: &[u8], n: u64) -> usize
+    ensures { λ r. ⌜ Puts (now (out .entry)) (now (out .exit)) at r ⌝ }
+{
     let mut p = at;
     let mut begun = NOTHING;
     let mut star = false;
@@ -126,7 +145,9 @@ fn plain(out: &mut [u8], at: usize, line: &[u8], n: u64) -> usize {
 }
 
 // Puts a line and the text that `%` stands for, and gives the position after it.
-pub fn fill(out: &mut [u8], line: &[u8], n: u64, given: &[u8]) -> usize {
+pub fn fill(out: &mut [u8], line: &[u8], n: u64, given: &[u8]) -> usize
+    ensures { λ r. ⌜ Puts (now (out .entry)) (now (out .exit)) 0 r ⌝ }
+{
     let mut p = 0;
     let mut at = 0;
     while at < line.len() {

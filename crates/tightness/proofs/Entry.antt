@@ -13,9 +13,8 @@ use Rattle.records.specs.StepBack.{backFrom, stepBack}
 use Rattle.records.proofs.Records.{holds-one}
 use Rattle.fields.specs.Runs.{empty}
 use Rattle.row.specs.Row.{Row}
-use Rattle.row.specs.Carries.{Carries, v12}
+use Rattle.row.specs.Versions.{is11, is12, versionText, Carries, v12}
 use Rattle.row.proofs.Plain.{row-some}
-use Rattle.lines.specs.Lines.{one}
 use Rattle.lines.proofs.Theorems.{version-line-text, version-line-inside, startLine, start-line-text, start-line-inside}
 use Rattle.trace.specs.Trace.{Trace, Spells, over, traceOf}
 use Rattle.trace.specs.Promise.{ReadPromise}
@@ -29,42 +28,25 @@ use Rattle.trace_writer.specs.Promise.{WritePromise}
 use Rattle.trace_writer.proofs.Answers as writing
 use Rattle.ascii.specs.Promise.{lineCount, ExportPromise}
 use Rattle.ascii.proofs.Answers as exporting
+use Rattle.tightness.specs.Tight.{received}
+use Rattle.tightness.proofs.Tried.{received-formed, received-carried}
 
 -- read
 
 -- offsets 3, 2 and 1: the first step back is row 2, and not the last, row 3
-abbrev frameAt : ℕ → Record
-frameAt offset = record { offset = offset; bus = 1; kind = 0; extended = 0; id = 1; len = 0; «data» = 0 }
-
 abbrev pub falling : Trace
-falling = traceOf 12 0 (frameAt 3 ∷ frameAt 2 ∷ frameAt 1 ∷ [])
+falling = traceOf 12 0 (received 3 1 ∷ received 2 1 ∷ received 1 1 ∷ [])
 
-frame-formed : (offset : ℕ) → offset ≤ offsetLimit → WellFormed (frameAt offset)
-frame-formed offset h = record {
-  offset = h;
-  bus = omega arith;
-  kind = omega arith;
-  extended = omega arith;
-  standard = λ e. omega arith;
-  id = omega arith;
-  len = omega arith;
-  eight = omega arith;
-  past = omega arith;
-  remote = ⊎-elim (λ e. absurd (omega arith)) (λ e. absurd (omega arith));
-  warning = λ e. absurd (omega arith);
-  error = λ e. absurd (omega arith);
-}
-
-frame-carried : (offset : ℕ) → Carries (frameAt offset) 12
-frame-carried offset = v12 (omega arith) (omega arith)
+formed : (offset : ℕ) → offset ≤ offsetLimit → WellFormed (received offset 1)
+formed offset h = received-formed offset 1 h (omega arith)
 
 falling-writable : Writable falling
 falling-writable = record {
-  version = inr refl;
+  version = is12;
   start = omega arith;
   few = omega arith;
-  formed = more (frame-formed 3 (omega arith)) (more (frame-formed 2 (omega arith)) (more (frame-formed 1 (omega arith)) none));
-  carried = more (frame-carried 3) (more (frame-carried 2) (more (frame-carried 1) none));
+  formed = more (formed 3 (omega arith)) (more (formed 2 (omega arith)) (more (formed 1 (omega arith)) none));
+  carried = more (received-carried 3 1) (more (received-carried 2 1) (more (received-carried 1 1) none));
 }
 
 pub last-step-back : {before after : List ℕ} → ReadPromise (traceText falling) before (0 ∷ 0 ∷ 12 ∷ 0 ∷ 3 ∷ 3 ∷ []) after → ⊥
@@ -78,7 +60,7 @@ last-step-back p =
 
 -- `;$FILEVERSION=1.1`, `;$STARTTIME=0.0` and an empty line: 7 at line 3, and not at line 4
 abbrev header : List ℕ
-header = endedLine (59 ∷ 36 ∷ 70 ∷ 73 ∷ 76 ∷ 69 ∷ 86 ∷ 69 ∷ 82 ∷ 83 ∷ 73 ∷ 79 ∷ 78 ∷ 61 ∷ 49 ∷ 46 ∷ 49 ∷ []) ++ endedLine startLine
+header = endedLine (59 ∷ versionText 11) ++ endedLine startLine
 
 abbrev pub emptyThird : List ℕ
 emptyThird = header ++ endedLine []
@@ -87,8 +69,8 @@ header-spells : Spells (traceOf 11 0 []) header
 header-spells = record {
   first = _;
   after-first = endedLine startLine;
-  one = record { first = record { inside = version-line-inside (one refl); ended = refl }; short = omega arith };
-  version = version-line-text (one refl);
+  one = record { first = record { inside = version-line-inside is11; ended = refl }; short = omega arith };
+  version = version-line-text is11;
   second = startLine;
   after-second = [];
   two = record { first = first-alone start-line-inside; short = omega arith };
@@ -106,7 +88,7 @@ fails-third = record {
   rest = endedLine [];
   stage = later (traceOf 11 0 []);
   whole = refl;
-  stands = at-later {n = 2} (omega arith) (lines-append (lines-alone (version-line-inside (one refl))) (lines-alone start-line-inside)) header-spells;
+  stands = at-later {n = 2} {t = traceOf 11 0 []} (omega arith) (lines-append (lines-alone (version-line-inside is11)) (lines-alone start-line-inside)) header-spells;
   stopped = no-row (record { first = first-alone empty; short = omega arith }) (λ c. omega (arith, ap length (c .bytes)))
       (λ d. omega (arith, ap length (d .bytes))) no-empty-row;
   at = refl;

@@ -1,17 +1,17 @@
 -- Wrong answers of the readers of fields, rows and single lines: each is refuted over what a field, a row or a line is.
 use Prim.Native.Nat.{ℕ}
-use mathlib.Core.Path.{_≡_, refl, ap}
+use mathlib.Core.Path.{_≡_, refl}
 use mathlib.Core.Logic.{_≢_}
-use mathlib.Core.List.{List, [], _∷_}
+use mathlib.Core.List.{List, [], _∷_, _++_}
 use native.Mathlib.Omega.{arith}
 use lib.ListN.{length, getD}
-use Rattle.fields.specs.Runs.{All, more, Stops, halt}
-use Rattle.fields.specs.Columns.{IdField, standard, long, Capital, remoteText}
+use Rattle.fields.specs.Runs.{All, more, Stops, halt, empty}
+use Rattle.fields.specs.Columns.{IdField, standard, long, Capital, remoteText, NumberField, OffsetField, BusField, LengthField}
 use Rattle.fields.specs.Window.{Solid, FieldAt}
 use Rattle.record.specs.declared.Record.{Record}
+use Rattle.row.specs.Versions.{Version, is11, versionText, Carries, v11}
 use Rattle.row.specs.Row
-use Rattle.row.specs.Carries.{Carries, v11}
-use Rattle.lines.specs.Lines.{VersionText, one, two, VersionLine}
+use Rattle.lines.specs.Lines.{VersionLine, Blanks, StartLine}
 
 -- fields
 
@@ -42,7 +42,7 @@ pub bus-1-in-11 : {k : ℕ} {r : Record} {line : List ℕ} → Row.Row 11 k r li
 bus-1-in-11 {k} {r} w e = go (w .row)
   where
     go : {fs : List (List ℕ)} → Row.RowFields 11 k r fs → ⊥
-    go (Row.number n (Row.one o b m)) = omega arith
+    go (Row.number n (Row.offset is11 o (Row.no-bus b m))) = omega arith
 
 -- a remote frame has the kind of its direction and two more
 pub remote-kind-one-more : {r : Record} → Row.FrameData 0 r (remoteText ∷ []) → r .kind ≡ 3 → ⊥
@@ -64,15 +64,20 @@ error-of-length-five (Row.error-length n l b) e = omega arith
 pub tenth-of-a-millisecond : {r : Record} → Carries r 11 → r .offset ≡ 50 → ⊥
 tenth-of-a-millisecond (v11 b o) e = omega arith
 
+-- versions
+
+pub version-13 : Version 13 → ⊥
+version-13 t = elim t [ ]
+
 -- lines
 
 -- `$FILEVERSION=1.3` is no version, and a version line is spelled exactly
 pub version-three : {line : List ℕ} → VersionLine 13 line → ⊥
-version-three l = go (l .is)
-  where
-    go : {s : List ℕ} → VersionText 13 s → ⊥
-    go t = elim t [ ]
+version-three l = version-13 (l .is)
 
-pub wrong-letter : {v : ℕ} {s : List ℕ} → VersionText v s → getD s 1 0 ≡ 71 → ⊥
-wrong-letter (one e) h = omega (arith, ap (λ (x : List ℕ). getD x 1 0) e)
-wrong-letter (two e) h = omega (arith, ap (λ (x : List ℕ). getD x 1 0) e)
+pub wrong-letter : {v : ℕ} {s : List ℕ} → VersionLine v (59 ∷ 36 ∷ 71 ∷ s) → ⊥
+wrong-letter {v} {s} l = go (l .after) (l .blanks) (l .bytes)
+  where
+    go : {a : List ℕ} (b : List ℕ) → Blanks a → 59 ∷ 36 ∷ 71 ∷ s ≡ 59 ∷ (a ++ (versionText v ++ b)) → ⊥
+    go b (more {b = x} p a) e = let z : 36 ≡ x = cc in omega arith
+    go b empty e = let z : _≡_ {A = ℕ} 71 70 = cc in omega arith

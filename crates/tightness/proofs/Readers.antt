@@ -20,7 +20,7 @@ use Rattle.trace.proofs.There.{there, there-size}
 use Rattle.tightness.specs.Programs.{Bytes, Reader, Reads}
 use Rattle.tightness.specs.Wrong.{RefusesAll, SameVersion, SameStart, SameRecords, CopiesFirst, InventsRows}
 use Rattle.tightness.specs.Tight.{HandsOut, received, Tried, empty, later, older, two, copied}
-use Rattle.tightness.proofs.Tried.{frame-formed, writable, zeros, textOf}
+use Rattle.tightness.proofs.Tried.{received-formed, writable, zeros, textOf}
 
 -- What spells a trace is accepted, and that trace handed out.
 pub accepts : {f : Reader} {t : Trace} → Reads f → (text out : Bytes) → length (text .list) ≤ sizeLimit → Spells t (text .list)
@@ -47,9 +47,9 @@ room two = omega arith
 room copied = omega arith
 
 -- Two records that differ are packed as other bytes.
-apart : bytes 20 (number (received 2)) ≡ bytes 20 (number (received 1)) → ⊥
+apart : bytes 20 (number (received 0 2)) ≡ bytes 20 (number (received 0 1)) → ⊥
 apart e =
-    let z = one-record (packs (frame-formed 2 (omega arith))) (record { formed = frame-formed 1 (omega arith); packed = e }) in
+    let z = one-record (packs (received-formed 0 2 (omega arith) (omega arith))) (record { formed = received-formed 0 1 (omega arith) (omega arith); packed = e }) in
     omega (arith, ap (λ (r : Record). r .id) z)
 
 copy : {s : List ℕ} (r q : Record) → s ≡ packed (r ∷ q ∷ []) → take 20 (drop 20 s) ≡ take 20 s → bytes 20 (number q) ≡ bytes 20 (number r)
@@ -87,12 +87,12 @@ module _ {f : Reader} (k : Reads f) where
       let a = tries empty in
       let b = tries two in
       let e = sym (a .records) ∙ h (textOf empty) (textOf two) (zeros 40) (a .accepted) (b .accepted) ∙ b .records in
-      omega (arith, ap length e, packed-length [], packed-length (received 1 ∷ received 2 ∷ []))
+      omega (arith, ap length e, packed-length [], packed-length (received 0 1 ∷ received 0 2 ∷ []))
 
   pub copies-first : CopiesFirst f → ⊥
   copies-first h =
       let a = tries two in
-      apart (copy (received 1) (received 2) (a .records) (h (textOf two) (zeros 40) (a .accepted) 1 (omega (arith, a .rows))))
+      apart (copy (received 0 1) (received 0 2) (a .records) (h (textOf two) (zeros 40) (a .accepted) 1 (omega (arith, a .rows))))
 
   pub invents-rows : InventsRows f → ⊥
   invents-rows i = i .invented (rows-true (k .keeps (i .text) (i .out)) (i .accepted) (i .spelled))

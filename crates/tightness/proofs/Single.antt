@@ -1,7 +1,7 @@
 -- Wrong answers of single functions: each is refuted over the relation that the function promises.
 use Prim.Native.Nat.{ℕ, _%_}
 use mathlib.Core.Path.{_≡_, refl, ap, _∙_}
-use mathlib.Core.Logic.{_≢_, _⊎_, inl, inr, ⊎-elim}
+use mathlib.Core.Logic.{_≢_, _⊎_, inl, inr}
 use mathlib.Core.List.{List, [], _∷_, _++_}
 use native.Mathlib.Omega.{arith}
 use mathlib.Core.Bool.{true, false}
@@ -22,10 +22,11 @@ use Rattle.fields.specs.Runs.{All, empty, more as and, Stops, halt}
 use Rattle.fields.specs.Columns.{BusField, LengthField, remoteText, markTx, Capital}
 use Rattle.fields.specs.Window.{Solid, FieldAt, Takes, taken, not, HexField, MarkField, rx, tx, warng, error}
 use Rattle.fields.proofs.Window.{field-one}
-use Rattle.lines.specs.Lines.{Blanks, VersionText, one as version-11, two as version-12, VersionLine, Comment}
+use Rattle.row.specs.Versions.{Version, is11, is12, versionText}
+use Rattle.row.proofs.EachVersion.{version-low}
+use Rattle.lines.specs.Lines.{Blanks, VersionLine, Comment}
 use Rattle.lines.specs.Answer
 use Rattle.lines.specs.Answer.{VersionOr0}
-use Rattle.lines.proofs.Theorems.{version-known}
 
 -- Equal lists begin with the same.
 differ : {x y : ℕ} {s t : List ℕ} → x ∷ s ≡ y ∷ t → x ≡ y
@@ -167,21 +168,20 @@ pub blank-before : {s : List ℕ} → Comment (32 ∷ 59 ∷ s) → ⊥
 blank-before c = omega (arith, differ (c .bytes))
 
 -- a version line is none the less one with blanks, or none, behind it;
-pub blanks-refused : {v : ℕ} {a s b : List ℕ} → Blanks a → VersionText v s → Blanks b → VersionOr0 (59 ∷ (a ++ (s ++ b))) 0 → ⊥
-blanks-refused p t q (Answer.version l) = ⊎-elim (λ e. omega arith) (λ e. omega arith) (version-known l)
-blanks-refused {v} {a} {s} {b} p t q (Answer.none e f) =
-    f v (record { before = a; text = s; after = b; bytes = refl; blanks = p; is = t; blank-end = q })
+pub blanks-refused : {v : ℕ} {a b : List ℕ} → Blanks a → Version v → Blanks b → VersionOr0 (59 ∷ (a ++ (versionText v ++ b))) 0 → ⊥
+blanks-refused p t q (Answer.version l) = omega (arith, version-low (l .is))
+blanks-refused {v} {a} {b} p t q (Answer.none e f) =
+    f v (record { is = t; before = a; after = b; bytes = refl; blanks = p; blank-end = q })
 
 -- but not with a tab
-pub tab-taken : {v : ℕ} → VersionLine v (59 ∷ 36 ∷ 70 ∷ 73 ∷ 76 ∷ 69 ∷ 86 ∷ 69 ∷ 82 ∷ 83 ∷ 73 ∷ 79 ∷ 78 ∷ 61 ∷ 49 ∷ 46 ∷ 50 ∷ 9 ∷ []) → ⊥
+pub tab-taken : {v : ℕ} → VersionLine v (59 ∷ (versionText 12 ++ (9 ∷ []))) → ⊥
 tab-taken l = go (l .blanks) (l .is) (l .blank-end) (l .bytes)
   where
-    go : {v : ℕ} {a s b : List ℕ} → Blanks a → VersionText v s → Blanks b
-        → 59 ∷ 36 ∷ 70 ∷ 73 ∷ 76 ∷ 69 ∷ 86 ∷ 69 ∷ 82 ∷ 83 ∷ 73 ∷ 79 ∷ 78 ∷ 61 ∷ 49 ∷ 46 ∷ 50 ∷ 9 ∷ [] ≡ 59 ∷ (a ++ (s ++ b)) → ⊥
+    go : {v : ℕ} {a b : List ℕ} → Blanks a → Version v → Blanks b → 59 ∷ (versionText 12 ++ (9 ∷ [])) ≡ 59 ∷ (a ++ (versionText v ++ b)) → ⊥
     go (and {b = x} p a) t q e = let z : 36 ≡ x = cc in omega arith
-    go empty (version-11 e) q h = let d = rw e at h in let z : _≡_ {A = ℕ} 50 49 = cc in omega arith
-    go empty (version-12 e) empty h = let d = rw e at h in omega (arith, ap length d)
-    go empty (version-12 e) (and {b = x} p b) h = let d = rw e at h in let z : 9 ≡ x = cc in omega arith
+    go empty is11 q h = let z : _≡_ {A = ℕ} 50 49 = cc in omega arith
+    go empty is12 empty h = omega (arith, ap length h)
+    go empty is12 (and {b = x} p b) h = let z : 9 ≡ x = cc in omega arith
 
 -- the line ends at CR, and not at LF
 pub return-passed : (s : List ℕ) → Decides (getD (13 ∷ s) 0 0 ≡ 13) false → ⊥

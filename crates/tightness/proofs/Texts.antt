@@ -5,10 +5,10 @@ use mathlib.Core.List.{[], _∷_}
 use native.Mathlib.Omega.{arith}
 use lib.ListN.{length}
 use Rattle.digits.specs.declared.Letters.the-variants.{Capital}
-use Rattle.digits.specs.House.{glyphOf, fixed, hexText}
+use Rattle.digits.specs.House.{glyphOf, fixed, hexText, byteTexts}
 use Rattle.fields.specs.Columns.{markRx}
 use Rattle.record.specs.declared.Record.{Record}
-use Rattle.row.specs.House.{busTexts, markText, idText, byteTexts}
+use Rattle.row.specs.House.{busTexts, markText, idText}
 use Rattle.ascii_line.specs.Line as line
 
 -- rows

@@ -14,9 +14,10 @@ use Rattle.fields.proofs.Scans.{digits-all}
 use Rattle.record.specs.declared.Record.{Record}
 use Rattle.record.specs.Promise.{PackPromise, done, malformed, short}
 use Rattle.row.specs.Row
-use Rattle.row.specs.House.{joined}
+use Rattle.base.specs.Spaced.{spaced, joined}
+use Rattle.row.specs.Versions.{is12}
 use Rattle.lines.specs.Lines.{StartLine}
-use Rattle.papers.specs.Text.{text}
+use Rattle.base.specs.Text.{text}
 use Rattle.papers.proofs.Rows.{fields-of, frame}
 use Rattle.papers.proofs.Starts.{parts-of, gives-only}
 
@@ -29,7 +30,7 @@ no-million n =
     omega (arith, n .high, one-decimal (n .spelled) (rw (c .0) at d))
 
 pub row-1000000 : {k : ℕ} (r : Record) → Row.Row 11 k r (text "1000000) 0.0 Rx 0123 0") → ⊥
-unfolding joined
+unfolding spaced joined
 row-1000000 {k} r w = go (fields-of (text "1000000)" ∷ text "0.0" ∷ text "Rx" ∷ text "0123" ∷ text "0" ∷ []) tt w)
   where
     go : {fs : List (List ℕ)} → Row.RowFields 11 k r (text "1000000)" ∷ fs) → ⊥
@@ -41,15 +42,15 @@ unfolding decimalText spell
 no-17 b = omega (arith, b .high, one-decimal (b .spelled) (decimal-spells 17))
 
 pub row-bus-17 : {k : ℕ} (r : Record) → Row.Row 12 k r (text "1) 0.000 17 Rx 0123 0") → ⊥
-unfolding joined
+unfolding spaced joined
 row-bus-17 {k} r w = go (fields-of (text "1)" ∷ text "0.000" ∷ text "17" ∷ text "Rx" ∷ text "0123" ∷ text "0" ∷ []) tt w)
   where
     go : {n o : List ℕ} {fs : List (List ℕ)} → Row.RowFields 12 k r (n ∷ o ∷ text "17" ∷ fs) → ⊥
-    go (Row.number n (Row.three o (Row.bus b m))) = no-17 b
+    go (Row.number n (Row.offset is12 o (Row.bus b m))) = no-17 b
 
 -- length 9
 pub row-length-9 : {k : ℕ} (r : Record) → Row.Row 11 k r (text "1) 0.0 Rx 0123 9 RTR") → ⊥
-unfolding joined
+unfolding spaced joined
 row-length-9 {k} r w = go (frame (fields-of (text "1)" ∷ text "0.0" ∷ text "Rx" ∷ text "0123" ∷ text "9" ∷ text "RTR" ∷ []) tt w))
   where
     go : {i : List ℕ} {fs : List (List ℕ)} → Row.FrameId 0 r (i ∷ text "9" ∷ fs) → ⊥
@@ -57,21 +58,21 @@ row-length-9 {k} r w = go (frame (fields-of (text "1)" ∷ text "0.0" ∷ text "
 
 -- two digits behind the point of an offset where version 1.2 has three
 pub row-two-fraction-digits : {k : ℕ} (r : Record) → Row.Row 12 k r (text "1) 0.00 1 Rx 0123 0") → ⊥
-unfolding joined
+unfolding spaced joined
 row-two-fraction-digits {k} r w = go (fields-of (text "1)" ∷ text "0.00" ∷ text "1" ∷ text "Rx" ∷ text "0123" ∷ text "0" ∷ []) tt w)
   where
     go : {n : List ℕ} {fs : List (List ℕ)} → Row.RowFields 12 k r (n ∷ text "0.00" ∷ fs) → ⊥
-    go (Row.number n (Row.three o b)) = omega (arith, simp length-append at (ap length (o .bytes)), o .second .width, o .first .some)
+    go (Row.number n (Row.offset is12 o b)) = omega (arith, simp length-append at (ap length (o .bytes)), o .second .width, o .first .some)
 
 -- day 100,000, which has six digits
 pub start-day-100000 : {ms : ℕ} → StartLine ms (text ";$STARTTIME=100000.0") → ⊥
 unfolding decimalText spell fixed
-start-day-100000 s = let b = gives-only 100000 1 0 (omega arith) s in omega (arith, b .low, b .high, s .limit)
+start-day-100000 s = let b = gives-only 100000 1 0 (omega arith) s in omega (arith, b .low, b .high, s .gives .limit)
 
 -- a fraction of eleven digits
 pub start-eleven-digits : {ms : ℕ} → StartLine ms (text ";$STARTTIME=1.00000000000") → ⊥
 unfolding decimalText spell fixed
-start-eleven-digits s = omega (arith, parts-of 1 11 0 (omega arith) s .2, s .short)
+start-eleven-digits s = omega (arith, parts-of 1 11 0 (omega arith) s .2, s .gives .short)
 
 -- a record with bus 17, packed
 pub packs-bus-17 : {r : Record} {before after : List ℕ} → r .bus ≡ 17 → PackPromise r before (0 ∷ 0 ∷ []) after → ⊥

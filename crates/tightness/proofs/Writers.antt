@@ -89,14 +89,14 @@ module _ {g : Writer} (k : Writes g) where
 
   pub writes-first : WritesFirst g → ⊥
   writes-first h =
-      let t = traceOf 12 0 (received 1 ∷ received 2 ∷ []) in
-      let u = traceOf 12 0 (received 1 ∷ received 1 ∷ []) in
+      let t = traceOf 12 0 (received 0 1 ∷ received 0 2 ∷ []) in
+      let u = traceOf 12 0 (received 0 1 ∷ received 0 1 ∷ []) in
       let n = length (traceText t) + length (traceText u) in
       let l = length-replicate {A = ℕ} n 0 in
       let a = puts two (zeros n) (omega arith) in
       let b = puts copied (zeros n) (omega arith) in
-      let e = sym (a .text) ∙ h 12 0 (received 1) (received 2 ∷ []) (recordsOf t) (recordsOf u) (zeros n) refl refl ∙ b .text in
-      omega (arith, ap (λ (x : Trace). getD (x .records) 1 (received 0) .id) (one-house (writable two) (writable copied) e))
+      let e = sym (a .text) ∙ h 12 0 (received 0 1) (received 0 2 ∷ []) (recordsOf t) (recordsOf u) (zeros n) refl refl ∙ b .text in
+      omega (arith, ap (λ (x : Trace). getD (x .records) 1 (received 0 0) .id) (one-house (writable two) (writable copied) e))
 
   module _ {f : Reader} (j : Reads f) where
     pub reads-back : (version start : ℕ) (records page text out : Bytes) → g version start records page .number ≡ 0

@@ -22,15 +22,15 @@ pub record HandsOut (t : Trace) (a : FromReader) : Type 0 where
 
 -- The traces that the wrong programs are tried with: without rows, in two versions and with two starts; with two rows, of IDs 1 and 2; and with
 -- the first of these copied.
-abbrev pub received : ℕ → Record
-received id = record { offset = 0; bus = 1; kind = 0; extended = 0; id = id; len = 0; «data» = 0 }
+abbrev pub received : ℕ → ℕ → Record
+received offset id = record { offset = offset; bus = 1; kind = 0; extended = 0; id = id; len = 0; «data» = 0 }
 
 pub data Tried : Trace → Type 0 where
   empty : Tried (traceOf 12 0 [])
   later : Tried (traceOf 12 1 [])
   older : Tried (traceOf 11 0 [])
-  two : Tried (traceOf 12 0 (received 1 ∷ received 2 ∷ []))
-  copied : Tried (traceOf 12 0 (received 1 ∷ received 1 ∷ []))
+  two : Tried (traceOf 12 0 (received 0 1 ∷ received 0 2 ∷ []))
+  copied : Tried (traceOf 12 0 (received 0 1 ∷ received 0 1 ∷ []))
 
 -- A trace is real: some bytes spell it, some are its records, and with room an answer with number 0 keeps each promise.
 pub record Real (t : Trace) : Type 0 where

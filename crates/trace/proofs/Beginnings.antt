@@ -9,8 +9,9 @@ use Rattle.base.proofs.Tables.{every, at}
 use Rattle.fields.specs.Runs.{empty}
 use Rattle.fields.proofs.Runs.{all-append, all-of}
 use Rattle.record.specs.declared.Record.{Record}
-use Rattle.lines.specs.Lines.{lineLimit, one, FirstLine, VersionLine, StartLine}
-use Rattle.trace.specs.Trace.{sizeLimit, Trace, Line, Body, over, comment, row, Spells, AreBytes, Begins}
+use Rattle.lines.specs.Lines.{lineLimit, FirstLine, VersionLine, StartLine}
+use Rattle.row.specs.Versions.{is11, versionText}
+use Rattle.trace.specs.Trace.{sizeLimit, Trace, Line, Body, over, comment, row, SpellsFrom, Spells, AreBytes, Begins}
 use Rattle.trace.specs.Promise.{Lines, none, line}
 use Rattle.lines.proofs.Theorems.{first-one, version-line-text, version-line-inside, startLine, start-line-text, start-line-inside}
 use Rattle.trace.proofs.Apart.{no-line}
@@ -18,11 +19,11 @@ use Rattle.trace.proofs.Cuts.{endedLine, first-more, line-more, first-a
 
 -- `;$FILEVERSION=1.1`
 abbrev versionLine : List ℕ
-versionLine = 59 ∷ 36 ∷ 70 ∷ 73 ∷ 76 ∷ 69 ∷ 86 ∷ 69 ∷ 82 ∷ 83 ∷ 73 ∷ 79 ∷ 78 ∷ 61 ∷ 49 ∷ 46 ∷ 49 ∷ []
+versionLine = 59 ∷ versionText 11
 
 -- A version line and a start line are a trace without rows.
-pub header : {v s : ℕ} {first second rest text : List ℕ} → Line first rest text → VersionLine v first → Line second [] rest → StartLine s second
-    → Spells (record { version = v; start = s; records = [] }) text
+pub header : {number v s : ℕ} {first second rest text : List ℕ} → Line first rest text → VersionLine v first → Line second [] rest → StartLine s second
+    → SpellsFrom number (record { version = v; start = s; records = [] }) text
 header l w m x =
     record { first = _; after-first = _; one = l; version = w; second = _; after-second = []; two = m; start = x; body = over }
 
@@ -43,7 +44,7 @@ begins-none = record {
   rest = endedLine versionLine ++ endedLine startLine;
   bytes = are-bytes (endedLine versionLine ++ endedLine startLine) tt;
   trace = _;
-  spelled = header (record { first = record { inside = version-line-inside (one refl); ended = refl }; short = omega arith }) (version-line-text (one refl)) start-alone start-line-text;
+  spelled = header (record { first = record { inside = version-line-inside is11; ended = refl }; short = omega arith }) (version-line-text is11) start-alone start-line-text;
   size = omega arith;
 }
 
@@ -92,7 +93,7 @@ body-shorts over = no-more
 body-shorts (comment l c h) = one-more l (body-shorts h)
 body-shorts (row l w h) = one-more l (body-shorts h)
 
-pub spells-shorts : {t : Trace} {text : List ℕ} → Spells t text → Shorts text
+pub spells-shorts : {number : ℕ} {t : Trace} {text : List ℕ} → SpellsFrom number t text → Shorts text
 spells-shorts a = one-more (a .one) (one-more (a .two) (body-shorts (a .body)))
 
 -- So is every line behind some lines.

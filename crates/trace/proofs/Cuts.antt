@@ -7,8 +7,9 @@ use native.Mathlib.Omega.{arith}
 use lib.ListN.{length}
 use Rattle.record.specs.declared.Record.{Record}
 use Rattle.fields.specs.Runs.{All}
+use Rattle.row.specs.Versions.{headLines}
 use Rattle.lines.specs.Lines.{Inside, FirstLine}
-use Rattle.trace.specs.Trace.{Trace, Line, Body, over, comment, row, Spells}
+use Rattle.trace.specs.Trace.{Trace, traceOf, Line, Body, over, comment, row, SpellsFrom}
 use Rattle.trace.specs.Promise.{Lines, none, line}
 use Rattle.lines.proofs.Theorems.{first-one}
 use Rattle.trace.proofs.Apart.{no-line}
@@ -92,44 +93,61 @@ body-append {k = k} {rest = rest} (row {rs = rs} l w h) g =
     let n : k + suc (length rs) ≡ k + 1 + length rs = omega arith in
     row (line-more rest l) w (body-append h (rw n at g))
 
+-- Where no row stands, the next may have any number.
+body-none : {v k j : ℕ} {t : List ℕ} {rs : List Record} → rs ≡ [] → Body v k rs t → Body v j rs t
+body-none e over = over
+body-none e (comment l c h) = comment l c (body-none e h)
+body-none e (row l w h) = let z : _≡_ {A = ℕ} 0 1 = cc in absurd (omega arith)
+
+pub spells-none : {number other version start : ℕ} {text : List ℕ} → SpellsFrom number (traceOf version start []) text
+    → SpellsFrom other (traceOf version start []) text
+spells-none a = record {
+  first = a .first;
+  after-first = a .after-first;
+  one = a .one;
+  version = a .version;
+  second = a .second;
+  after-second = a .after-second;
+  two = a .two;
+  start = a .start;
+  body = body-none refl (a .body);
+}
+
 -- The trace with these records.
 abbrev pub withRecords : Trace → List Record → Trace
 withRecords t rs = record { version = t .version; start = t .start; records = rs }
 
 -- A text that spells a trace, and more rows behind it.
-pub spells-append : {t : Trace} {bs : List Record} {front rest : List ℕ} → Spells t front
-    → Body (t .version) (length (t .records) + 1) bs rest → Spells (withRecords t (t .records ++ bs)) (front ++ rest)
-spells-append {t} {rest = rest} a g =
-    let n : length (t .records) + 1 ≡ 1 + length (t .records) = omega arith in
-    record {
-      first = a .first;
-      after-first = a .after-first ++ rest;
-      one = line-more rest (a .one);
-      version = a .version;
-      second = a .second;
-      after-second = a .after-second ++ rest;
-      two = line-more rest (a .two);
-      start = a .start;
-      body = body-append (a .body) (rw n at g);
-    }
+pub spells-append : {number : ℕ} {t : Trace} {bs : List Record} {front rest : List ℕ} → SpellsFrom number t front
+    → Body (t .version) (number + length (t .records)) bs rest → SpellsFrom number (withRecords t (t .records ++ bs)) (front ++ rest)
+spells-append {rest = rest} a g = record {
+  first = a .first;
+  after-first = a .after-first ++ rest;
+  one = line-more rest (a .one);
+  version = a .version;
+  second = a .second;
+  after-second = a .after-second ++ rest;
+  two = line-more rest (a .two);
+  start = a .start;
+  body = body-append (a .body) g;
+}
 
--- A text that spells a trace, cut after two lines or more.
-pub record CutTrace (t : Trace) (front rest : List ℕ) : Type 0 where
+-- A text that spells a trace, cut after its head lines or more.
+pub record CutTrace (number : ℕ) (t : Trace) (front rest : List ℕ) : Type 0 where
   pub before : List Record
   pub after : List Record
   pub whole : t .records ≡ before ++ after
-  pub first : Spells (withRecords t before) front
-  pub second : Body (t .version) (length before + 1) after rest
+  pub first : SpellsFrom number (withRecords t before) front
+  pub second : Body (t .version) (number + length before) after rest
 
-pub spells-cut : {n : ℕ} {t : Trace} {front : List ℕ} (rest : List ℕ) → 2 ≤ n → Lines n front → Spells t (front ++ rest)
-    → CutTrace t front rest
+pub spells-cut : {n number : ℕ} {t : Trace} {front : List ℕ} (rest : List ℕ) → headLines (t .version) ≤ n → Lines n front
+    → SpellsFrom number t (front ++ rest) → CutTrace number t front rest
 spells-cut rest m none a = absurd (omega arith)
 spells-cut rest m (line f none) a = absurd (omega arith)
 spells-cut {t = t} rest m (line f (line g ls)) a =
     let x = first-one (a .one .first) (first-more rest f) in
     let y = first-one (a .two .first) (rw (← (x .1)) at (first-more rest g)) in
     let c = body-cut rest ls (y .1) (a .body) in
-    let n : 1 + length (c .before) ≡ length (c .before) + 1 = omega arith in
     record {
       before = c .before;
       after = c .after;
@@ -145,5 +163,5 @@ spells-cut {t = t} rest m (line f (line g ls)) a =
         start = a .start;
         body = c .first;
       };
-      second = rw n at (c .second);
+      second = c .second;
     }

@@ -5,10 +5,11 @@ use mathlib.Core.Path.{_≡_, refl, ap}
 use mathlib.Core.List.{List, [], _++_}
 use native.Mathlib.Omega.{arith}
 use lib.ListN.{length, getD}
+use Rattle.row.specs.Versions.{headLines}
 use Rattle.trace.specs.Trace.{sizeLimit, Trace, Line, Spells, Begins}
 use Rattle.trace.specs.Trace.{over as body-over, comment as body-comment, row as body-row}
 use Rattle.trace.specs.Promise
-use Rattle.trace.specs.Promise.{Lines, Reached, Barred, Refused, ReadPromise}
+use Rattle.trace.specs.Promise.{Lines, Reached, PastHead, Barred, Refused, ReadPromise}
 use Rattle.trace.specs.Promise.{none as no-lines, line as lines-more}
 use Rattle.lines.proofs.Theorems.{first-one}
 use Rattle.trace.proofs.Cuts.{endedLine, first-more, line-more, first-alone, withRecords, spells-append, spells-cut}
@@ -26,9 +27,9 @@ stands (lines-more f no-lines) b =
     let x = first-one (a .one .first) (first-more (b .rest) f) in
     (second (b .trace .version), at-second (record { first = f; short = rw (x .0) at (a .one .short) }) (rw (x .0) at (a .version)))
 stands (lines-more {n = n} f (lines-more {n = m} g ls)) b =
-    let two : 2 ≤ m + 1 + 1 = omega arith in
-    let c = spells-cut (b .rest) two (lines-more f (lines-more g ls)) (b .spelled) in
-    (later (withRecords (b .trace) (c .before)), at-later two (lines-more f (lines-more g ls)) (c .first))
+    let head : headLines (b .trace .version) ≤ m + 1 + 1 = omega arith in
+    let c = spells-cut (b .rest) head (lines-more f (lines-more g ls)) (b .spelled) in
+    (later (withRecords (b .trace) (c .before)), at-later head (lines-more f (lines-more g ls)) (c .first))
 
 -- Which of the three it is goes by their number.
 of-first : {n : ℕ} {front : List ℕ} {g : Stage} → Stands n front g → n ≡ 0 → g ≡ first
@@ -41,10 +42,10 @@ of-second at-first e = absurd (omega arith)
 of-second (at-second {v = v} l w) e = (v, refl)
 of-second (at-later m ls a) e = absurd (omega arith)
 
-of-later : {n : ℕ} {front : List ℕ} {g : Stage} → Stands n front g → 2 ≤ n → (t : Trace) × (g ≡ later t)
-of-later at-first e = absurd (omega arith)
-of-later (at-second l w) e = absurd (omega arith)
-of-later (at-later {t = t} m ls a) e = (t, refl)
+of-later : {n : ℕ} {front : List ℕ} {g : Stage} (v : ℕ) → Stands n front g → headLines v ≤ n → (t : Trace) × (g ≡ later t)
+of-later v at-first e = absurd (omega arith)
+of-later v (at-second l w) e = absurd (omega arith)
+of-later v (at-later {t = t} m ls a) e = (t, refl)
 
 module _ {rest text : List ℕ} where
   on-first : (r : Reached 0 rest text) → Stands 0 (r .front) first
@@ -58,10 +59,10 @@ module _ {rest text : List ℕ} where
       let e = of-second s refl in
       (e .0, rw (e .1) at s)
 
-  on-later : {n : ℕ} → 2 ≤ n → (r : Reached n rest text) → (t : Trace) × Stands n (r .front) (later t)
-  on-later m r =
+  on-later : {n : ℕ} (r : Reached n rest text) → PastHead r → (t : Trace) × Stands n (r .front) (later t)
+  on-later r m =
       let s = stands (r .lines) (r .begins) .1 in
-      let e = of-later s m in
+      let e = of-later (r .begins .trace .version) s m in
       (e .0, rw (e .1) at s)
 
 -- Some acceptable text begins with them and a line that may stand next, within the size limit.
@@ -95,9 +96,9 @@ module _ {text : List ℕ} (size : length text ≤ sizeLimit) where
   refused-fails (Promise.no-start b) =
       let s = on-second (b .reached) .1 in
       fails (b .reached) s (Fails.no-start (b .there) (λ v w. bars b s (start w)))
-  refused-fails (Promise.dollar m b d) = fails (b .reached) (on-later m (b .reached) .1) (Fails.dollar (b .there) d)
-  refused-fails (Promise.no-row m b d) =
-      let s = on-later m (b .reached) .1 in
+  refused-fails (Promise.dollar b m d) = fails (b .reached) (on-later (b .reached) m .1) (Fails.dollar (b .there) d)
+  refused-fails (Promise.no-row b m d) =
+      let s = on-later (b .reached) m .1 in
       fails (b .reached) s (Fails.no-row (b .there) (λ c. bars b s (comment c)) d (λ q w. bars b s (row w)))
 
 -- What the table lists for a text and an output. 2 to 7: the first line that is wrong has this number and place.

@@ -7,6 +7,7 @@ use native.Mathlib.Omega.{arith}
 use lib.ListN.{length, length-append}
 use Rattle.record.specs.declared.Record.{Record}
 use Rattle.fields.specs.Runs.{All}
+use Rattle.row.specs.Versions.{headLines}
 use Rattle.row.specs.Row.{Row}
 use Rattle.lines.specs.Lines.{lineLimit, Inside, FirstLine, VersionLine, StartLine, Comment, DollarLine}
 use Rattle.trace.specs.Trace.{sizeLimit, Trace, Line, Body, Spells, Begins}
@@ -20,7 +21,7 @@ use Rattle.trace.proofs.One.{one-trace}
 use Rattle.trace.proofs.Cuts.{endedLine, first-more, first-there, spells-cut}
 use Rattle.trace.proofs.Beginnings.{begins-none, begins-version, begins-spelled}
 
--- What the lines so far say: none stands there; one, of this version; two or more, which spell this trace.
+-- What the lines so far say: none stands there; one, of this version; the head lines or more, which spell this trace.
 pub data Stage : Type 0 where
   first : Stage
   second : ℕ → Stage
@@ -30,14 +31,14 @@ pub data Stage : Type 0 where
 pub data Stands : ℕ → List ℕ → Stage → Type 0 where
   at-first : Stands 0 [] first
   at-second : {v : ℕ} {line front : List ℕ} → Line line [] front → VersionLine v line → Stands 1 front (second v)
-  at-later : {n : ℕ} {t : Trace} {front : List ℕ} → 2 ≤ n → Lines n front → Spells t front → Stands n front (later t)
+  at-later : {n : ℕ} {t : Trace} {front : List ℕ} → headLines (t .version) ≤ n → Lines n front → Spells t front → Stands n front (later t)
 
 -- The line may stand next.
 pub data Next : Stage → List ℕ → Type 0 where
   version : {v : ℕ} {line : List ℕ} → VersionLine v line → Next first line
   start : {v s : ℕ} {line : List ℕ} → StartLine s line → Next (second v) line
   comment : {t : Trace} {line : List ℕ} → Comment line → Next (later t) line
-  row : {t : Trace} {r : Record} {line : List ℕ} → Row (t .version) (length (t .records) + 1) r line → Next (later t) line
+  row : {t : Trace} {r : Record} {line : List ℕ} → Row (t .version) (1 + length (t .records)) r line → Next (later t) line
 
 -- What is left stops the text, with this number.
 pub data Stopped : Stage → List ℕ → ℕ → Type 0 where
@@ -49,7 +50,7 @@ pub data Stopped : Stage → List ℕ → ℕ → Type 0 where
   no-start : {v : ℕ} {line after rest : List ℕ} → Line line after rest → ((s : ℕ) → StartLine s line → ⊥) → Stopped (second v) rest 5
   dollar : {t : Trace} {line after rest : List ℕ} → Line line after rest → DollarLine line → Stopped (later t) rest 6
   no-row : {t : Trace} {line after rest : List ℕ} → Line line after rest → (Comment line → ⊥) → (DollarLine line → ⊥)
-      → ((r : Record) → Row (t .version) (length (t .records) + 1) r line → ⊥) → Stopped (later t) rest 7
+      → ((r : Record) → Row (t .version) (1 + length (t .records)) r line → ⊥) → Stopped (later t) rest 7
 
 -- The first line that is wrong has this place, and the number says how.
 pub record Fails (text : List ℕ) (number place : ℕ) : Type 0 where
@@ -85,7 +86,7 @@ stands-reached {front = front} {rest = rest} s e h = record {
 
 -- The first line of the rows to come.
 body-next : {t : Trace} {rs : List Record} {line after rest : List ℕ} → FirstLine line after rest
-    → Body (t .version) (length (t .records) + 1) rs rest → Next (later t) line
+    → Body (t .version) (1 + length (t .records)) rs rest → Next (later t) line
 body-next f body-over = absurd (no-line f)
 body-next f (body-comment l c h) = comment (rw (first-one (l .first) f .0) at c)
 body-next f (body-row l w h) = row (rw (first-one (l .first) f .0) at w)
@@ -100,7 +101,7 @@ stands-next {rest = rest} (at-second l w) f a =
 stands-next {rest = rest} (at-later {t = t} m ls b) f a =
     let c = spells-cut rest m ls a in
     let e = one-trace (c .first) b in
-    body-next f (subst (λ (x : Trace). Body (x .version) (length (x .records) + 1) (c .after) rest) e (c .second))
+    body-next f (subst (λ (x : Trace). Body (x .version) (1 + length (x .records)) (c .after) rest) e (c .second))
 
 -- So no acceptable text begins with them and a line that may not.
 pub stands-never : {n : ℕ} {front line : List ℕ} {g : Stage} → Stands n front g → All Inside line → (Next g line → ⊥)
@@ -130,7 +131,7 @@ not-dollar : {t : Trace} {line : List ℕ} → DollarLine line → Next (later t
 not-dollar d (comment c) = not-both c d
 not-dollar d (row w) = row-no-dollar w d
 
-not-row : {t : Trace} {line : List ℕ} → (Comment line → ⊥) → ((r : Record) → Row (t .version) (length (t .records) + 1) r line → ⊥)
+not-row : {t : Trace} {line : List ℕ} → (Comment line → ⊥) → ((r : Record) → Row (t .version) (1 + length (t .records)) r line → ⊥)
     → Next (later t) line → ⊥
 not-row c r (comment x) = c x
 not-row c r (row w) = r _ w
@@ -144,8 +145,8 @@ stopped-refused at-first e h no-first = Promise.no-first (stands-reached at-firs
 stopped-refused at-first e h (no-version l bars) = Promise.no-version (barred at-first e h l (not-version bars))
 stopped-refused (at-second f v) e h no-second = Promise.no-second (stands-reached (at-second f v) e h)
 stopped-refused (at-second f v) e h (no-start l bars) = Promise.no-start (barred (at-second f v) e h l (not-start bars))
-stopped-refused (at-later m ls a) e h (dollar l d) = Promise.dollar m (barred (at-later m ls a) e h l (not-dollar d)) d
-stopped-refused (at-later m ls a) e h (no-row l c d r) = Promise.no-row m (barred (at-later m ls a) e h l (not-row c r)) d
+stopped-refused (at-later m ls a) e h (dollar l d) = Promise.dollar (barred (at-later m ls a) e h l (not-dollar d)) m d
+stopped-refused (at-later m ls a) e h (no-row l c d r) = Promise.no-row (barred (at-later m ls a) e h l (not-row c r)) m d
 
 pub fails-refused : {text : List ℕ} {number place : ℕ} → length text ≤ sizeLimit → Fails text number place → Refused text number place
 fails-refused h f = rw (f .at) (stopped-refused (f .stands) (f .whole) h (f .stopped))

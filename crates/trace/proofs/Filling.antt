@@ -1,5 +1,5 @@
--- What the second pass keeps: the records of the lines up to `at` are packed, and those of the rest are to come.
-use Prim.Native.Nat.{ℕ, suc, _+_, _*_, _-_, _≤_, _<_}
+-- What the second pass keeps: the records of the lines up to `at` are packed, and those of the rest are to come. The first row has number `first`.
+use Prim.Native.Nat.{ℕ, _+_, _*_, _≤_, _<_}
 use mathlib.Core.Path.{_≡_, refl, ap, sym, _∙_}
 use mathlib.Core.Logic.{_≢_, _⊎_, inl, inr, ⊎-elim}
 use mathlib.Core.List.{List, [], _∷_, _++_, append-nil, append-assoc}
@@ -20,11 +20,11 @@ use Rattle.row.proofs.Formed.{row-formed}
 use Rattle.row.proofs.One.{row-one}
 use Rattle.row.proofs.Plain.{row-starts, row-some}
 use Rattle.lines.specs.Lines.{FirstLine, Comment}
-use Rattle.trace.specs.Trace.{Trace, Line, Body, over, comment, row, Spells}
+use Rattle.trace.specs.Trace.{Trace, Line, Body, over, comment, row, SpellsFrom}
 use Rattle.trace.specs.Passes.{There, Bars, Headed, Fits, Filled}
 use Rattle.trace.proofs.Rows.{Rowed}
 use Rattle.trace.specs.Passes
-use Rattle.trace.proofs.Cuts.{withRecords, spells-cut}
+use Rattle.trace.proofs.Cuts.{spells-none, spells-cut}
 use Rattle.lines.proofs.Theorems.{first-one, not-both}
 use Rattle.trace.proofs.Apart.{no-line, row-no-comment, row-no-dollar}
 use Rattle.trace.proofs.One.{one-trace}
@@ -44,13 +44,13 @@ stepped-more rs {last} {back} {b} r c l s f = step (below-or-not 0 back)
         (λ m. f .none z m ∙ sym (back-none rs r e (rw l at m)))
         (below-or-not (r .offset) last)
 
-pub record Filling (text old out : List ℕ) (version start at o rows last back : ℕ) : Type 0 where
+pub record Filling (first : ℕ) (text old out : List ℕ) (version start at o rows last back : ℕ) : Type 0 where
   pub within : at ≤ length text
   pub few : rows ≤ at
   pub before : List Record
   pub after : List Record
-  pub spelled : Spells (record { version = version; start = start; records = before ++ after }) text
-  pub rest : Body version (rows + 1) after (drop at text)
+  pub spelled : SpellsFrom first (record { version = version; start = start; records = before ++ after }) text
+  pub rest : Body version (first + rows) after (drop at text)
   pub counted : rows ≡ length before
   pub room : o + 20 * length after ≤ length old
   pub place : o ≡ 20 * length before
@@ -58,11 +58,12 @@ pub record Filling (text old out : List ℕ) (version start at o rows last back 
   pub latest : last ≡ lastOffset before
   pub stepped : back ≡ stepBack before
 
-pub filling : {text old : List ℕ} {version start at : ℕ} → Headed text at version start → Fits text old version start → Filling text old old version start at 0 0 0 0
+pub filling : {first : ℕ} {text old : List ℕ} {version start at : ℕ} → Headed text at version start → Fits first text old version start
+    → Filling first text old old version start at 0 0 0 0
 unfolding packed stepBack
-filling {text} {old} {version} {start} {at} h f =
+filling {text = text} {at = at} h f =
     let c = spells-cut (drop at text) (omega arith) (h .lines) (rw (← take-append-drop at text) at (f .spelled)) in
-    let z : c .before ≡ [] = ap (λ (t : Trace). t .records) (one-trace (c .first) (h .spelled)) in
+    let z : c .before ≡ [] = ap (λ (t : Trace). t .records) (one-trace (c .first) (spells-none (h .spelled))) in
     let w : f .records ≡ c .after = c .whole ∙ ap (λ (x : List Record). x ++ c .after) z in
     record {
       within = h .within;
@@ -118,14 +119,14 @@ behind p b old out o n e k h q =
     let d : drop (o + n) out ≡ drop (o + n) old = rw (q, ← e, drop-append-add, drop-drop) in
     sets-eq b out o (omega arith) ∙ rw (t, k, d)
 
-module _ {text old out : List ℕ} {version start at o rows last back : ℕ} (f : Filling text old out version start at o rows last back) where
+module _ {first : ℕ} {text old out : List ℕ} {version start at o rows last back : ℕ} (f : Filling first text old out version start at o rows last back) where
   pub out-length : length out ≡ length old
   out-length =
       let p = f .place in
       let m = f .room in
       omega (arith, ap length (f .stored) ∙ length-append (packed (f .before)) (drop o old), packed-length (f .before), length-drop o old)
 
-  pub stored-note : {next : ℕ} (line : List ℕ) → There text at next line → Comment line → Filling text old out version start next o rows last back
+  pub stored-note : {next : ℕ} (line : List ℕ) → There text at next line → Comment line → Filling first text old out version start next o rows last back
   stored-note line t c = record {
     within = t .within;
     few = let a = f .few in let b = t .later in omega arith;
@@ -141,17 +142,19 @@ module _ {text old out : List ℕ} {version start at o rows last back : ℕ} (f 
     stepped = f .stepped;
   }
 
-  pub row-room : {next : ℕ} (r : Record) (line : List ℕ) → There text at next line → Row version (rows + 1) r line → (o + 20 ≤ length out) × WellFormed r
-  row-room r line t w =
-      let x = head-row (f .rest) (t .is .first) w in
+  pub row-room : {next k : ℕ} (r : Record) (line : List ℕ) → k ≡ first + rows → There text at next line → Row version k r line
+      → (o + 20 ≤ length out) × WellFormed r
+  row-room r line q t w =
+      let x = head-row (f .rest) (t .is .first) (rw q at w) in
       let m = f .room in
       (omega (arith, out-length, ap length (x .1)), row-formed w)
 
-  pub stored-row : {next b : ℕ} (r : Record) (line new : List ℕ) → There text at next line → Row version (rows + 1) r line
+  pub stored-row : {next k b : ℕ} (r : Record) (line new : List ℕ) → k ≡ first + rows → There text at next line → Row version k r line
       → new ≡ sets out o (bytes 20 (number r)) → BackAfter back (rows + 1) last (r .offset) b
-      → Filling text old new version start next (o + 20) (rows + 1) (r .offset) b
-  stored-row r line new t w e y =
-      let x = head-row (f .rest) (t .is .first) w in
+      → Filling first text old new version start next (o + 20) (rows + 1) (r .offset) b
+  stored-row r line new q t w e y =
+      let x = head-row (f .rest) (t .is .first) (rw q at w) in
+      let i : first + rows + 1 ≡ first + (rows + 1) = omega arith in
       let m = f .room in
       let n = f .counted in
       let l = length-append (f .before) (r ∷ []) in
@@ -161,7 +164,7 @@ module _ {text old out : List ℕ} {version start at o rows last back : ℕ} (f 
         before = f .before ++ (r ∷ []);
         after = x .0;
         spelled = rw append-assoc (rw (x .1) at (f .spelled));
-        rest = x .2;
+        rest = rw i at (x .2);
         counted = omega arith;
         room = omega (arith, ap length (x .1));
         place = let p = f .place in omega arith;
@@ -177,14 +180,14 @@ module _ {text old out : List ℕ} {version start at o rows last back : ℕ} (f 
   pub never-bad : {n : ℕ} → at < length text → getD text at 0 ≡ 59 → Bars (drop at text) n → ⊥
   never-bad h z b = no-bars (f .rest) (omega (arith, length-drop at text)) (λ r line after l w. not-row l w) b
     where
-      not-row : {r : Record} {line after : List ℕ} → Line line after (drop at text) → Row version (rows + 1) r line → ⊥
+      not-row : {r : Record} {line after : List ℕ} → Line line after (drop at text) → Row version (first + rows) r line → ⊥
       not-row {line = []} l w = let n = row-some w in omega arith
       not-row {line = b ∷ line} l w = row-starts w b line refl (sym (first-byte (l .first) refl (drop-cons text at 0 h)) ∙ z)
 
-  pub row-next : at < length text → getD text at 0 ≢ 59 → Rowed text at version (rows + 1)
-  row-next h z = go (f .rest) refl
+  pub row-next : {k : ℕ} → k ≡ first + rows → at < length text → getD text at 0 ≢ 59 → Rowed text at version k
+  row-next {k} q h z = go (rw (← q) at (f .rest)) refl
     where
-      go : {rs : List Record} {s : List ℕ} → Body version (rows + 1) rs s → s ≡ drop at text → Rowed text at version (rows + 1)
+      go : {rs : List Record} {s : List ℕ} → Body version k rs s → s ≡ drop at text → Rowed text at version k
       go over e = absurd (omega (arith, ap length e, length-drop at text))
       go (comment l c b) e = absurd (z (first-byte (l .first) (c .bytes) (e ∙ drop-cons text at 0 h)))
       go (row l x b) e = record { r = _; line = _; after = _; is = rw e at l; row = x }
@@ -194,13 +197,13 @@ module _ {text old out : List ℕ} {version start at o rows last back : ℕ} (f 
   done-body (comment l c b) e = absurd (no-line (rw e at (l .first)))
   done-body (row l w b) e = absurd (no-line (rw e at (l .first)))
 
-  pub filled : length text ≤ at → Filled text old out back
+  pub filled : length text ≤ at → Filled first text old out back
   filled h = record {
     bytes = λ t s. rw (all t s, ← (f .place)) (f .stored);
     back = λ t s. rw (all t s) (f .stepped);
   }
     where
-      all : (t : Trace) → Spells t text → t .records ≡ f .before
+      all : (t : Trace) → SpellsFrom first t text → t .records ≡ f .before
       all t s =
           let z : f .after ≡ [] = done-body (f .rest) (drop-of-length-le text h) in
           let q = ap (λ (u : Trace). u .records) (one-trace s (f .spelled)) in

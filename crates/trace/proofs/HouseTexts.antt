@@ -12,6 +12,7 @@ use Rattle.fields.specs.Columns.{lastNumber}
 use Rattle.record.specs.declared.Record.{Record}
 use Rattle.record.specs.Record.{WellFormed}
 use Rattle.records.specs.Records.{Each, none, more}
+use Rattle.row.specs.Versions.{versionText}
 use Rattle.row.specs.House.{rowText}
 use Rattle.row.proofs.Spelled.{row-size}
 use Rattle.lines.specs.Lines.{startText}
@@ -20,8 +21,7 @@ use Rattle.trace.specs.House.{versionLineText, dayFraction, startLineTex
 
 -- Each text, as it is defined.
 
-pub version-line : (version : ℕ) → versionLineText version
-    ≡ (59 ∷ 36 ∷ 70 ∷ 73 ∷ 76 ∷ 69 ∷ 86 ∷ 69 ∷ 82 ∷ 83 ∷ 73 ∷ 79 ∷ 78 ∷ 61 ∷ 49 ∷ 46 ∷ []) ++ ((48 + version % 10) ∷ [])
+pub version-line : (version : ℕ) → versionLineText version ≡ 59 ∷ versionText version
 unfolding versionLineText
 version-line version = refl
 
@@ -67,9 +67,9 @@ start-line-size start h =
     let p = length-fixed figureOf 10 10 (dayFraction (start % dayMs)) in
     simp (start-line, length-append) (omega arith)
 
--- At most 67 bytes a row, and its end.
+-- At most 64 bytes a row, and its end.
 pub rows-size : {version : ℕ} {rs : List Record} (k : ℕ) → Each WellFormed rs → Carried version rs → k + length rs ≤ lastNumber + 1
-    → length (rowsText version k rs) ≤ 69 * length rs
+    → length (rowsText version k rs) ≤ 66 * length rs
 rows-size k none none h = rw rows-none (omega arith)
 rows-size k (more f fs) (more c cs) h =
     let n : k ≤ lastNumber = omega arith in

@@ -3,31 +3,31 @@ use Prim.Native.Nat.{ℕ, _+_, _-_, _≤_, _<_}
 use mathlib.Core.Path.{_≡_, refl, ap, sym, _∙_}
 use mathlib.Core.List.{List, [], _∷_, _++_, append-nil}
 use native.Mathlib.Omega.{arith}
-use native.Mathlib.Decide.{ℕ-discrete}
-use lib.ListN.{length, take, drop, length-append, length-drop, length-take, take-append-drop}
+use lib.ListN.{length, take, drop, length-append, length-drop, take-append-drop}
 use lib.Seq.{take-add, take-at, take-all, length-take-le}
 use Rattle.record.specs.declared.Record.{Record}
+use Rattle.row.specs.Versions.{headLines}
 use Rattle.row.specs.Row.{Row}
 use Rattle.lines.specs.Lines.{Comment}
 use Rattle.trace.specs.declared.Judged.the-variants as judged
-use Rattle.trace.specs.Trace.{sizeLimit, Trace, Line, Body, over, comment, row, Spells}
+use Rattle.trace.specs.Trace.{sizeLimit, Trace, Line, Body, over, comment, row, SpellsFrom}
 use Rattle.trace.specs.Promise.{Lines, Refused}
 use Rattle.trace.specs.Passes.{There, NoRow, Bars, Headed, Judges}
 use Rattle.trace.specs.Promise
 use Rattle.trace.specs.Passes
-use Rattle.trace.proofs.Cuts.{endedLine, first-alone, first-whole, lines-alone, lines-append, withRecords, spells-append}
-use Rattle.trace.proofs.Fails.{Stands, at-later, Stopped, later, stopped-refused}
+use Rattle.trace.proofs.Cuts.{endedLine, first-alone, first-whole, lines-alone, lines-append, spells-none, spells-append}
+use Rattle.trace.proofs.Fails.{at-later, Stopped, later, stopped-refused}
 use Rattle.trace.proofs.Fails
 
--- The lines up to `at` are judged: they spell these records.
-pub record Judging (text : List ℕ) (version start at place rows : ℕ) : Type 0 where
+-- The lines up to `at` are judged: they spell these records, and the first row has number `first`.
+pub record Judging (first : ℕ) (text : List ℕ) (version start at place rows : ℕ) : Type 0 where
   pub within : at ≤ length text
   pub few : rows ≤ at
   pub near : place ≤ at
-  pub two : 2 ≤ place
+  pub head : headLines version ≤ place
   pub lines : Lines place (take at text)
   pub records : List Record
-  pub spelled : Spells (record { version = version; start = start; records = records }) (take at text)
+  pub spelled : SpellsFrom first (record { version = version; start = start; records = records }) (take at text)
   pub counted : rows ≡ length records
 
 -- Each line has two bytes at the least, its end.
@@ -35,15 +35,15 @@ lines-near : {n : ℕ} {s : List ℕ} → Lines n s → n ≤ length s
 lines-near Promise.none = omega arith
 lines-near (Promise.line {l = l} {rest = rest} f ls) = omega (arith, ap length (f .ended) ∙ length-append l (13 ∷ 10 ∷ rest), lines-near ls)
 
-pub judging : {text : List ℕ} {version start at : ℕ} → Headed text at version start → Judging text version start at 2 0
+pub judging : {first : ℕ} {text : List ℕ} {version start at : ℕ} → Headed text at version start → Judging first text version start at (headLines version) 0
 judging {text} {at = at} h = record {
   within = h .within;
   few = omega arith;
   near = let n = lines-near (h .lines) in omega (arith, length-take-le at text (h .within));
-  two = omega arith;
+  head = omega arith;
   lines = h .lines;
   records = [];
-  spelled = h .spelled;
+  spelled = spells-none (h .spelled);
   counted = refl;
 }
 
@@ -59,13 +59,10 @@ up-to {text} {at} {next} {line} t =
     let x : take (next - at) (drop at text) ≡ endedLine line = rw w (take-at (endedLine line) (drop next text) (next - at) n) in
     ap (λ (i : ℕ). take i text) m ∙ take-add at (next - at) text ∙ ap (λ (s : List ℕ). take at text ++ s) x
 
-module _ {text : List ℕ} {version start at place rows : ℕ} (j : Judging text version start at place rows) where
-  abbrev so-far : Trace
-  so-far = record { version = version; start = start; records = j .records }
-
+module _ {first : ℕ} {text : List ℕ} {version start at place rows : ℕ} (j : Judging first text version start at place rows) where
   -- one line more, with these records on it
-  line-more : {next : ℕ} {line : List ℕ} (bs : List Record) → There text at next line → Body version (length (j .records) + 1) bs (endedLine line)
-      → Lines (place + 1) (take next text) × Spells (record { version = version; start = start; records = j .records ++ bs }) (take next text)
+  line-more : {next : ℕ} {line : List ℕ} (bs : List Record) → There text at next line → Body version (first + length (j .records)) bs (endedLine line)
+      → Lines (place + 1) (take next text) × SpellsFrom first (record { version = version; start = start; records = j .records ++ bs }) (take next text)
   line-more bs t b =
       let e = up-to t in
       (rw e (lines-append (j .lines) (lines-alone (t .is .first .inside))), rw e (spells-append (j .spelled) b))
@@ -73,52 +70,60 @@ module _ {text : List ℕ} {version start at place rows : ℕ} (j : Judging text
   alone : {next : ℕ} {line : List ℕ} → There text at next line → Line line [] (endedLine line)
   alone t = record { first = first-alone (t .is .first .inside); short = t .is .short }
 
-  pub noted : {next : ℕ} (line : List ℕ) → There text at next line → Comment line → Judging text version start next (place + 1) rows
+  pub noted : {next : ℕ} (line : List ℕ) → There text at next line → Comment line → Judging first text version start next (place + 1) rows
   noted {next} line t c =
       let x = line-more [] t (comment (alone t) c over) in
       let a = t .later in
       let n = j .few in
       let m = j .near in
-      let k = j .two in
+      let k = j .head in
       record {
         within = t .within;
         few = omega arith;
         near = omega arith;
-        two = omega arith;
+        head = omega arith;
         lines = x .0;
         records = j .records;
         spelled = rw append-nil at (x .1);
         counted = j .counted;
       }
 
-  pub counted-row : {next : ℕ} (r : Record) (line : List ℕ) → There text at next line → Row version (rows + 1) r line
-      → Judging text version start next (place + 1) (rows + 1)
-  counted-row {next} r line t w =
+  pub counted-row : {next k : ℕ} (r : Record) (line : List ℕ) → k ≡ first + rows → There text at next line → Row version k r line
+      → Judging first text version start next (place + 1) (rows + 1)
+  counted-row {next} {k} r line q t w =
       let e = j .counted in
-      let x = line-more (r ∷ []) t (row (alone t) (rw e at w) over) in
+      let i : k ≡ first + length (j .records) = omega arith in
+      let x = line-more (r ∷ []) t (row (alone t) (rw i at w) over) in
       let a = t .later in
       let n = j .few in
       let m = j .near in
-      let k = j .two in
+      let k = j .head in
       record {
         within = t .within;
         few = omega arith;
         near = omega arith;
-        two = omega arith;
+        head = omega arith;
         lines = x .0;
         records = j .records ++ (r ∷ []);
         spelled = x .1;
         counted = omega (arith, length-append (j .records) (r ∷ []));
       }
 
-  stops : {n : ℕ} → at < length text → NoRow text at version (rows + 1) → Bars (drop at text) n → Stopped (later so-far) (drop at text) n
+  pub finished : length text ≤ at → Judges first text version start (judged.Good rows)
+  finished h = (j .records, rw (take-all at text h) at (j .spelled), j .counted)
+
+-- A line that may not stand behind them, where the first row has number 1: the promise's refusal.
+module _ {text : List ℕ} {version start at place rows k : ℕ} (j : Judging 1 text version start at place rows) (q : k ≡ 1 + rows) where
+  abbrev so-far : Trace
+  so-far = record { version = version; start = start; records = j .records }
+
+  stops : {n : ℕ} → at < length text → NoRow text at version k → Bars (drop at text) n → Stopped (later so-far) (drop at text) n
   stops h r (Passes.unended f) = Fails.unended {rest = drop at text} (λ e. omega (arith, ap length e, length-drop at text)) f
   stops h r (Passes.long f l) = Fails.long f l
   stops h r (Passes.dollar l d) = Fails.dollar l d
-  stops h r (Passes.other l c d) = Fails.no-row {t = so-far} l c d (λ q w. r q _ _ l (rw (← (j .counted)) at w))
+  stops h r (Passes.other l c d) =
+      let e : 1 + length (j .records) ≡ k = omega (arith, j .counted) in
+      Fails.no-row {t = so-far} l c d (λ x w. r x _ _ l (rw e at w))
 
-  pub refused-line : {n : ℕ} → length text ≤ sizeLimit → at < length text → NoRow text at version (rows + 1) → Bars (drop at text) n → Refused text n (place + 1)
-  refused-line s h r b = stopped-refused (at-later (j .two) (j .lines) (j .spelled)) (sym (take-append-drop at text)) s (stops h r b)
-
-  pub finished : length text ≤ at → Judges text version start (judged.Good rows)
-  finished h = (j .records, rw (take-all at text h) at (j .spelled), j .counted)
+  pub refused-line : {n : ℕ} → length text ≤ sizeLimit → at < length text → NoRow text at version k → Bars (drop at text) n → Refused text n (place + 1)
+  refused-line s h r b = stopped-refused (at-later (j .head) (j .lines) (j .spelled)) (sym (take-append-drop at text)) s (stops h r b)

@@ -4,7 +4,7 @@ use mathlib.Core.Path.{_≡_, refl}
 use mathlib.Core.List.{List}
 use Rattle.record.specs.declared.Record.{Record}
 use Rattle.row.proofs.One.{row-one}
-use Rattle.trace.specs.Trace.{Trace, Line, Body, over, comment, row, Spells}
+use Rattle.trace.specs.Trace.{Trace, Line, Body, over, comment, row, SpellsFrom}
 use Rattle.lines.proofs.Theorems.{first-one, version-one, start-one}
 use Rattle.trace.proofs.Apart.{no-line, row-no-comment}
 
@@ -27,7 +27,7 @@ body-one (row l w h) (row m x j) =
     cc (row-one (rw (e .0) at w) x, body-one h (rw (← (e .1)) at j))
 
 -- A text spells one trace at most.
-pub one-trace : {t u : Trace} {s : List ℕ} → Spells t s → Spells u s → t ≡ u
+pub one-trace : {number : ℕ} {t u : Trace} {s : List ℕ} → SpellsFrom number t s → SpellsFrom number u s → t ≡ u
 one-trace {t} {u} a b =
     let x = line-one (a .one) (b .one) in
     let y = line-one (a .two) (rw (← (x .1)) at (b .two)) in

@@ -1,20 +1,18 @@
 -- The first two lines: what each answer of their readers makes of the text.
-use Prim.Native.Nat.{ℕ, _+_, _-_, _≤_, _<_}
+use Prim.Native.Nat.{ℕ, _≤_, _<_}
 use mathlib.Core.Path.{_≡_, refl, ap, sym, _∙_}
-use mathlib.Core.Logic.{⊎-elim}
 use mathlib.Core.List.{List, [], _∷_, _++_}
 use native.Mathlib.Omega.{arith}
 use lib.ListN.{length, take, drop, length-drop, take-append-drop, drop-of-length-le}
-use lib.Seq.{slice, length-slice}
 use Rattle.lines.specs.Lines.{lineLimit, FirstLine, VersionLine, StartLine}
+use Rattle.row.proofs.EachVersion.{version-low}
 use Rattle.lines.specs.Answer.{VersionOr0, version, none}
-use Rattle.lines.proofs.Theorems.{version-known}
-use Rattle.trace.specs.Trace.{sizeLimit, Trace, Line, over, Spells}
-use Rattle.trace.specs.Promise.{Lines, Refused}
+use Rattle.trace.specs.Trace.{sizeLimit, Line, over}
+use Rattle.trace.specs.Promise.{Refused}
 use Rattle.trace.specs.Passes.{There, Versioned, Headed}
-use Rattle.trace.proofs.Cuts.{endedLine, first-alone, first-there, lines-alone, lines-append, line-more}
+use Rattle.trace.proofs.Cuts.{endedLine, first-alone, first-there, lines-alone, lines-append}
 use Rattle.trace.proofs.Fails
-use Rattle.trace.proofs.Fails.{Stands, at-first, at-second, Stopped, unended, long, no-first, no-version, no-second, no-start, stopped-refused}
+use Rattle.trace.proofs.Fails.{Stands, at-first, at-second, unended, long, no-first, no-version, no-second, no-start, stopped-refused}
 use Rattle.trace.proofs.Judging.{up-to}
 
 empty : (s : List ℕ) → length s ≡ 0 → s ≡ []
@@ -83,5 +81,5 @@ is-version (version w) n = w
 is-version (none z f) n = absurd (n z)
 
 pub no-version-there : {line : List ℕ} {v : ℕ} → VersionOr0 line v → v ≡ 0 → (u : ℕ) → VersionLine u line → ⊥
-no-version-there (version w) z u x = ⊎-elim (λ e. omega arith) (λ e. omega arith) (version-known w)
+no-version-there (version w) z u x = omega (arith, version-low (w .is))
 no-version-there (none z f) y u x = f u x

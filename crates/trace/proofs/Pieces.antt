@@ -1,9 +1,9 @@
 -- Laws on the pieces of a text that the passes lend.
-use Prim.Native.Nat.{ℕ, _+_, _-_, _≤_, _<_}
-use mathlib.Core.Path.{_≡_, refl, ap, sym, _∙_}
+use Prim.Native.Nat.{ℕ, _+_, _-_, _≤_}
+use mathlib.Core.Path.{_≡_}
 use mathlib.Core.List.{List}
 use native.Mathlib.Omega.{arith}
-use lib.ListN.{length, take, drop, length-append}
+use lib.ListN.{length, take, drop}
 use lib.Seq.{slice, take-at, length-slice}
 use Rattle.fields.proofs.Window.{slice-drop}
 use Rattle.lines.specs.Lines.{lineLimit, FirstLine}

@@ -92,8 +92,8 @@ place h (Promise.no-first r) m = missing (omega arith) r
 place h (Promise.no-version b) m = barred h b
 place h (Promise.no-second r) m = missing (omega arith) r
 place h (Promise.no-start b) m = barred h b
-place h (Promise.dollar l b d) m = barred h b
-place h (Promise.no-row l b d) m = barred h b
+place h (Promise.dollar b l d) m = barred h b
+place h (Promise.no-row b l d) m = barred h b
 
 -- The same of every answer that keeps the promise.
 pub read-place : {text before a after : List ℕ} {number p : ℕ} → ReadPromise text before a after → a ≡ readNumbers (outcome.Refused number p)

@@ -2,7 +2,7 @@
 use Prim.Native.Nat.{ℕ, suc, _+_, _-_, _≤_, _<_}
 use mathlib.Core.Path.{_≡_, refl, ap, sym, _∙_}
 use mathlib.Core.Logic.{_≢_, _⊎_, inl, inr}
-use mathlib.Core.List.{List, [], _∷_, _++_, append-assoc}
+use mathlib.Core.List.{List, _∷_, _++_, append-assoc}
 use native.Mathlib.Numerals.{add-one}
 use native.Mathlib.Omega.{arith}
 use native.Mathlib.Decide.{decLt}
@@ -134,14 +134,6 @@ module _ {text w fields : List ℕ} {at from version k e : ℕ} (reach : Reaches
           let s = reach .starts in
           let a = win .within in
           omega (arith, front-length, ap length c ∙ length-append line (13 ∷ more))
-
-  -- It ends behind its start.
-  pub feed-later : e ≢ 0 → at ≤ from + e
-  feed-later z = let x = framed front (win .over) in go (read (x .line) (rw (win .bytes) (x .is)))
-    where
-      go : {line : List ℕ} → RowFound version k (at - from) line fields e → at ≤ from + e
-      go (no-row y g) = absurd (z y)
-      go (row-found u o y) = let s = reach .starts in omega arith
 
   -- A row was read, within the limit, and LF stands behind its CR.
   pub row-here : e ≢ 0 → from + e ≤ at + (lineLimit + 1) → from + e < length text → getD text (from + e) 0 ≡ 10 → RowAt text at version k fields (from + e + 1)

@@ -6,12 +6,12 @@ use mathlib.Core.List.{List, [], _∷_, _++_, append-nil}
 use native.Mathlib.Omega.{arith}
 use lib.ListN.{length, length-append}
 use Rattle.digits.specs.Digits.{DecimalDigit, Padded}
-use Rattle.digits.specs.House.{decimalText, paddedText}
+use Rattle.digits.specs.House.{paddedText}
 use Rattle.digits.proofs.House.{few, decimal-spells, padded-spells}
 use Rattle.clock.specs.Start.{dayMs, startLimit}
 use Rattle.clock.proofs.Starts.{back, fraction-fits}
 use Rattle.fields.specs.Columns.{lastNumber}
-use Rattle.fields.specs.Runs.{All, empty, more as byte}
+use Rattle.fields.specs.Runs.{All, more as byte}
 use Rattle.fields.proofs.Runs.{all-map, all-append, all-left}
 use Rattle.fields.proofs.Scans.{Some, digits-all}
 use Rattle.record.specs.declared.Record.{Record}
@@ -21,19 +21,12 @@ use Rattle.row.specs.House.{rowText}
 use Rattle.row.proofs.Spelled.{row-spelled, row-size}
 use Rattle.row.proofs.Formed.{row-formed, row-carried, row-number}
 use Rattle.row.proofs.Plain.{row-plain}
-use Rattle.lines.specs.Lines.{Inside, VersionText, one, two, startText, StartLine}
-use Rattle.lines.proofs.Lines.{versionText}
-use Rattle.lines.proofs.Theorems.{version-line-text, version-line-inside, version-known, start-line-inside}
-use Rattle.trace.specs.Trace.{sizeLimit, Trace, Body, over, comment, row, Spells}
-use Rattle.trace.specs.House.{versionLineText, dayFraction, startLineText, rowsText, traceText, Version, Carried, Writable}
+use Rattle.lines.specs.Lines.{Inside, startText, StartLine}
+use Rattle.lines.proofs.Theorems.{version-line-text, version-line-inside, start-line-of, start-line-inside}
+use Rattle.trace.specs.Trace.{sizeLimit, Trace, Body, over, comment, row, SpellsFrom, Spells}
+use Rattle.trace.specs.House.{versionLineText, dayFraction, startLineText, rowsText, traceText, Carried, Writable}
 use Rattle.trace.proofs.HouseTexts.{version-line, start-line, day-fraction, rows-none, rows-more, trace-text, version-line-length, start-line-size, rows-size}
 use Rattle.trace.proofs.One.{one-trace}
-
--- Line 1.
-
-version-spelled : (v : ℕ) → Version v → VersionText v (versionText ++ ((48 + v % 10) ∷ []))
-version-spelled v (inl e) = rw e (one refl)
-version-spelled v (inr e) = rw e (two refl)
 
 -- Line 2.
 
@@ -51,16 +44,9 @@ module _ (start : ℕ) where
   start-spelled h =
       let d = start / dayMs in
       let m = start % dayMs in
-      let f = paddedText 10 (dayFraction m) in
       let p = fraction-spelled in
       let e : d * dayMs + m ≡ start = omega arith in
-      record {
-        before = [];
-        day = decimalText d;
-        fraction = f;
-        after = [];
-        bytes = start-line start ∙ ap (λ (s : List ℕ). 59 ∷ (startText ++ (decimalText d ++ (46 ∷ s)))) (sym (append-nil f));
-        blanks = empty;
+      rw start-line (start-line-of (record {
         days = d;
         count = decimal-spells d;
         few = few 4 d (omega arith);
@@ -68,10 +54,9 @@ module _ (start : ℕ) where
         digits = record { digits = p .digits; width = refl };
         some = omega (arith, p .width);
         short = omega (arith, p .width);
-        blank-end = empty;
         is = rw (p .width) (rw e at (back d (day-fraction m)));
         limit = h;
-      }
+      }))
 
   -- What stands before the digits also stands in `;$STARTTIME=0.0`, which has no CR and no LF.
   start-inside : All Inside (startLineText start)
@@ -97,7 +82,7 @@ rows-spelled {v} k (more {r = r} {rs = rs} f fs) (more c cs) l h =
 -- The house spelling of a trace that can be written is spelled by that trace.
 pub there : {t : Trace} → Writable t → Spells t (traceText t)
 there {t} w =
-    let v = version-spelled (t .version) (w .version) in
+    let v = w .version in
     record {
       first = versionLineText (t .version);
       after-first = startLineText (t .start) ++ (13 ∷ 10 ∷ rowsText (t .version) 1 (t .records));
@@ -142,15 +127,19 @@ numbered over l = omega arith
 numbered (comment m c h) l = numbered h l
 numbered (row m w h) l = let n = row-number w in omega (arith, numbered h (omega arith))
 
--- Any trace that was read can be written.
-pub read-writable : {t : Trace} {text : List ℕ} → Spells t text → Writable t
-read-writable a = record {
-  version = version-known (a .version);
-  start = a .start .limit;
-  few = omega (arith, numbered (a .body) (omega arith));
+-- Whatever number its first row has, a trace that is spelled can be written.
+spelled-writable : {number : ℕ} {t : Trace} {text : List ℕ} → 1 ≤ number → number ≤ lastNumber + 1 → SpellsFrom number t text → Writable t
+spelled-writable l h a = record {
+  version = a .version .is;
+  start = a .start .gives .limit;
+  few = omega (arith, numbered (a .body) h);
   formed = formed (a .body);
   carried = carried (a .body);
 }
+
+-- Any trace that was read can be written.
+pub read-writable : {t : Trace} {text : List ℕ} → Spells t text → Writable t
+read-writable a = spelled-writable (omega arith) (omega arith) a
 
 -- Two traces with one house spelling are one trace.
 pub one-house : {t u : Trace} → Writable t → Writable u → traceText t ≡ traceText u → t ≡ u

@@ -1,7 +1,7 @@
 -- The place of number 2: the lines before begin some acceptable text. Behind them stands a wrong end, and nothing that begins with them and
 -- the line up to it spells a trace; or the text is cut off before its line has ended.
 use Prim.Native.Nat.{ℕ, _+_}
-use mathlib.Core.Path.{_≡_, refl, ap, sym, _∙_}
+use mathlib.Core.Path.{_≡_, refl, ap}
 use mathlib.Core.Logic.{_≢_}
 use mathlib.Core.List.{List, [], _∷_, _++_, append-assoc}
 use native.Mathlib.Omega.{arith}
@@ -11,7 +11,7 @@ use Rattle.lines.specs.Lines.{Inside, FirstLine}
 use Rattle.lines.proofs.Theorems.{feed-alone, return-alone}
 use Rattle.trace.specs.Trace.{Trace, Spells, Begins}
 use Rattle.trace.specs.Promise
-use Rattle.trace.specs.Promise.{Lines, Reached, Refused}
+use Rattle.trace.specs.Promise.{Lines, Refused}
 use Rattle.trace.proofs.Beginnings.{Shorts, no-more, one-more, spells-shorts, shorts-after}
 
 -- A line and a wrong end: LF, or CR and another byte.

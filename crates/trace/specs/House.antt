@@ -1,24 +1,22 @@
 -- The house spelling of a whole trace, and which traces have one.
 use Prim.Native.Nat.{ℕ, _+_, _*_, _/_, _%_, _^_, _≤_}
-use mathlib.Core.Path.{_≡_}
-use mathlib.Core.Logic.{_⊎_}
 use mathlib.Core.List.{List, [], _∷_, _++_}
 use lib.ListN.{length}
-use Rattle.digits.specs.House.{decimalText, paddedText}
+use Rattle.base.specs.Text.{text, semicolon, point, cr, lf}
+use Rattle.digits.specs.House.{figureOf, decimalText, paddedText}
 use Rattle.clock.specs.Start.{dayMs, startLimit}
 use Rattle.fields.specs.Columns.{lastNumber}
 use Rattle.record.specs.declared.Record.{Record}
 use Rattle.record.specs.Record.{WellFormed}
 use Rattle.records.specs.Records.{Each}
-use Rattle.row.specs.Carries.{Carries}
+use Rattle.row.specs.Versions.{Version, versionText, Carries}
 use Rattle.row.specs.House.{rowText}
 use Rattle.lines.specs.Lines.{startText}
 use Rattle.trace.specs.Trace.{Trace}
 
--- `;$FILEVERSION=1.` and the version's last digit, without blanks: line 1.
+-- `;` and the version's text, without blanks: line 1.
 unfoldable pub versionLineText : ℕ → List ℕ
-versionLineText version =
-    59 ∷ 36 ∷ 70 ∷ 73 ∷ 76 ∷ 69 ∷ 86 ∷ 69 ∷ 82 ∷ 83 ∷ 73 ∷ 79 ∷ 78 ∷ 61 ∷ 49 ∷ 46 ∷ (48 + version % 10) ∷ []
+versionLineText version = semicolon ∷ versionText version
 
 -- The fraction of the day, in ten digits: the day's milliseconds times 10,000,000,000 over 86,400,000, to nearest, halves up.
 unfoldable pub dayFraction : ℕ → ℕ
@@ -26,21 +24,17 @@ dayFraction ms = (2 * (ms * 10 ^ 10) + dayMs) / (2 * dayMs)
 
 -- `;$STARTTIME=`, the days without leading zeros, a point and the ten digits, without blanks: line 2.
 unfoldable pub startLineText : ℕ → List ℕ
-startLineText start = 59 ∷ (startText ++ (decimalText (start / dayMs) ++ (46 ∷ paddedText 10 (dayFraction (start % dayMs)))))
+startLineText start = semicolon ∷ (startText ++ (decimalText (start / dayMs) ++ (point ∷ paddedText 10 (dayFraction (start % dayMs)))))
 
 -- The rows from number k on, each ended by CR LF.
 unfoldable pub rowsText : ℕ → ℕ → List Record → List ℕ
 rowsText version k [] = []
-rowsText version k (r ∷ rs) = rowText version k r ++ (13 ∷ 10 ∷ rowsText version (k + 1) rs)
+rowsText version k (r ∷ rs) = rowText version k r ++ (cr ∷ lf ∷ rowsText version (k + 1) rs)
 
 -- The whole text.
 unfoldable pub traceText : Trace → List ℕ
 traceText t =
-    versionLineText (t .version) ++ (13 ∷ 10 ∷ (startLineText (t .start) ++ (13 ∷ 10 ∷ rowsText (t .version) 1 (t .records))))
-
--- 1.1 or 1.2.
-abbrev pub Version : ℕ → Type 0
-Version version = (version ≡ 11) ⊎ (version ≡ 12)
+    versionLineText (t .version) ++ (cr ∷ lf ∷ (startLineText (t .start) ++ (cr ∷ lf ∷ rowsText (t .version) 1 (t .records))))
 
 -- Every record is one that the version can carry.
 abbrev pub Carried : ℕ → List Record → Type 0

@@ -3,11 +3,13 @@ use Prim.Native.Nat.{ℕ, _+_, _*_, _-_, _≤_, _<_}
 use mathlib.Core.Path.{_≡_}
 use mathlib.Core.List.{List, [], _∷_, _++_}
 use lib.ListN.{length, take, drop}
+use Rattle.base.specs.Text.{cr}
 use Rattle.record.specs.declared.Record.{Record}
 use Rattle.record.specs.Promise.{fieldsOf}
 use Rattle.records.specs.Records.{packed}
 use Rattle.records.specs.StepBack.{stepBack}
 use Rattle.fields.specs.Window.{windowBytes}
+use Rattle.row.specs.Versions.{headLines}
 use Rattle.row.specs.Row.{Row}
 use Rattle.lines.specs.Lines.{lineLimit, FirstLine, VersionLine, Comment, DollarLine}
 use Rattle.trace.specs.declared.Other.{Other}
@@ -16,7 +18,7 @@ use Rattle.trace.specs.declared.Heading.{Heading}
 use Rattle.trace.specs.declared.Heading.the-variants as heading
 use Rattle.trace.specs.declared.Judged.{Judged}
 use Rattle.trace.specs.declared.Judged.the-variants as judged
-use Rattle.trace.specs.Trace.{Trace, traceOf, Line, Spells}
+use Rattle.trace.specs.Trace.{Trace, traceOf, Line, SpellsFrom, Spells}
 use Rattle.trace.specs.Promise.{Lines, Refused}
 
 -- The line stands at `at`, and the next one at `next`.
@@ -33,7 +35,7 @@ mostHeld = windowBytes - 1
 pub record Windowed (text : List ℕ) (from : ℕ) (w : List ℕ) : Type 0 where
   pub held : ℕ
   pub behind : List ℕ
-  pub bytes : w ≡ take held (drop from text) ++ (13 ∷ behind)
+  pub bytes : w ≡ take held (drop from text) ++ (cr ∷ behind)
   pub within : from + held ≤ length text
   pub most : held < mostHeld → from + held ≡ length text
 
@@ -71,29 +73,29 @@ pub record Versioned (text : List ℕ) (at version : ℕ) : Type 0 where
   pub there : There text 0 at line
   pub is : VersionLine version line
 
--- The first two lines end at `at`, and give this version and start.
+-- The head lines end at `at`, and give this version and start.
 pub record Headed (text : List ℕ) (at version start : ℕ) : Type 0 where
   pub within : at ≤ length text
-  pub lines : Lines 2 (take at text)
+  pub lines : Lines (headLines version) (take at text)
   pub spelled : Spells (traceOf version start []) (take at text)
 
 abbrev pub Heads : List ℕ → Heading → Type 0
 Heads text (heading.Body v s at) = Headed text at v s
 Heads text (heading.Bad n p) = Refused text n p
 
--- The records of the whole text, or its refusal.
-abbrev pub Judges : List ℕ → ℕ → ℕ → Judged → Type 0
-Judges text version start (judged.Good rows) =
-    (rs : List Record) × Spells (traceOf version start rs) text × (rows ≡ length rs)
-Judges text version start (judged.Bad n p) = Refused text n p
+-- The records of the whole text, whose first row has number `first`, or its refusal.
+abbrev pub Judges : ℕ → List ℕ → ℕ → ℕ → Judged → Type 0
+Judges first text version start (judged.Good rows) =
+    (rs : List Record) × SpellsFrom first (traceOf version start rs) text × (rows ≡ length rs)
+Judges first text version start (judged.Bad n p) = Refused text n p
 
 -- Some trace is spelled, and the output has room for its records.
-pub record Fits (text out : List ℕ) (version start : ℕ) : Type 0 where
+pub record Fits (first : ℕ) (text out : List ℕ) (version start : ℕ) : Type 0 where
   pub records : List Record
-  pub spelled : Spells (traceOf version start records) text
+  pub spelled : SpellsFrom first (traceOf version start records) text
   pub room : 20 * length records ≤ length out
 
 -- The output holds the records of whatever trace the text spells, and behind them what was there; b is their first step back.
-pub record Filled (text before after : List ℕ) (b : ℕ) : Type 0 where
-  pub bytes : (t : Trace) → Spells t text → after ≡ packed (t .records) ++ drop (20 * length (t .records)) before
-  pub back : (t : Trace) → Spells t text → b ≡ stepBack (t .records)
+pub record Filled (first : ℕ) (text before after : List ℕ) (b : ℕ) : Type 0 where
+  pub bytes : (t : Trace) → SpellsFrom first t text → after ≡ packed (t .records) ++ drop (20 * length (t .records)) before
+  pub back : (t : Trace) → SpellsFrom first t text → b ≡ stepBack (t .records)

@@ -4,8 +4,10 @@ use mathlib.Core.Path.{_≡_}
 use mathlib.Core.Logic.{_≢_}
 use mathlib.Core.List.{List, [], _∷_, _++_}
 use lib.ListN.{length, drop}
+use Rattle.base.specs.Text.{cr, lf}
 use Rattle.records.specs.Records.{packed}
 use Rattle.records.specs.StepBack.{stepBack}
+use Rattle.row.specs.Versions.{headLines}
 use Rattle.trace.specs.declared.Outcome.{Outcome}
 use Rattle.trace.specs.declared.Outcome.the-variants as outcome
 use Rattle.lines.specs.Lines.{lineLimit, FirstLine, DollarLine}
@@ -28,13 +30,17 @@ pub record Reached (n : ℕ) (rest text : List ℕ) : Type 0 where
   pub lines : Lines n front
   pub begins : Begins front
 
+-- They are the head lines of their version, or more: behind them stand comments and rows.
+abbrev pub PastHead : {n : ℕ} {rest text : List ℕ} → Reached n rest text → Type 0
+PastHead {n} r = headLines (r .begins .trace .version) ≤ n
+
 -- A line after those with which no acceptable text begins.
 pub record Barred (n : ℕ) (line text : List ℕ) : Type 0 where
   pub rest : List ℕ
   pub reached : Reached n rest text
   pub after : List ℕ
   pub there : Line line after rest
-  pub never : Begins (reached .front ++ (line ++ (13 ∷ 10 ∷ []))) → ⊥
+  pub never : Begins (reached .front ++ (line ++ (cr ∷ lf ∷ []))) → ⊥
 
 -- The text is refused with this number at this line: the lines before it begin some acceptable text, and
 -- 2, what is left is not empty and starts with no ended line; 3, the line has more than 250 bytes; 4 and 5, line 1 or 2 is absent, or no
@@ -48,8 +54,8 @@ pub data Refused (text : List ℕ) : ℕ → ℕ → Type 0 where
   no-version : {line : List ℕ} → Barred 0 line text → Refused text 4 1
   no-second : Reached 1 [] text → Refused text 5 2
   no-start : {line : List ℕ} → Barred 1 line text → Refused text 5 2
-  dollar : {n : ℕ} {line : List ℕ} → 2 ≤ n → Barred n line text → DollarLine line → Refused text 6 (n + 1)
-  no-row : {n : ℕ} {line : List ℕ} → 2 ≤ n → Barred n line text → (DollarLine line → ⊥) → Refused text 7 (n + 1)
+  dollar : {n : ℕ} {line : List ℕ} (b : Barred n line text) → PastHead (b .reached) → DollarLine line → Refused text 6 (n + 1)
+  no-row : {n : ℕ} {line : List ℕ} (b : Barred n line text) → PastHead (b .reached) → (DollarLine line → ⊥) → Refused text 7 (n + 1)
 
 -- `read` of a text, into an output that held `before` and then holds `after`, gives the numbers a.
 pub data ReadPromise (text before a after : List ℕ) : Type 0 where

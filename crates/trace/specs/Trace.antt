@@ -1,6 +1,5 @@
 -- What a trace is, and how it is spelled: a relation between its values and the bytes of a text.
 use Prim.Native.Nat.{ℕ, _+_, _≤_, _<_}
-use mathlib.Core.Path.{_≡_}
 use mathlib.Core.List.{List, [], _∷_, _++_}
 use lib.ListN.{length}
 use Rattle.record.specs.declared.Record.{Record}
@@ -35,8 +34,8 @@ pub data Body (version : ℕ) : ℕ → List Record → List ℕ → Type 0 wher
   row : {k : ℕ} {r : Record} {rs : List Record} {line rest text : List ℕ} → Line line rest text → Row version k r line
       → Body version (k + 1) rs rest → Body version k (r ∷ rs) text
 
--- The text spells the trace: a version line, a start line, then comments and rows, the first row having number 1.
-pub record Spells (t : Trace) (text : List ℕ) : Type 0 where
+-- The text spells the trace: a version line, a start line, then comments and rows, the first row having this number.
+pub record SpellsFrom (number : ℕ) (t : Trace) (text : List ℕ) : Type 0 where
   pub first : List ℕ
   pub after-first : List ℕ
   pub one : Line first after-first text
@@ -45,7 +44,11 @@ pub record Spells (t : Trace) (text : List ℕ) : Type 0 where
   pub after-second : List ℕ
   pub two : Line second after-second after-first
   pub start : StartLine (t .start) second
-  pub body : Body (t .version) 1 (t .records) after-second
+  pub body : Body (t .version) number (t .records) after-second
+
+-- The k-th row has number k.
+abbrev pub Spells : Trace → List ℕ → Type 0
+Spells t text = SpellsFrom 1 t text
 
 -- Numbers that are bytes.
 abbrev pub AreBytes : List ℕ → Type 0

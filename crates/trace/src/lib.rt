@@ -7,6 +7,7 @@ use lines::StartTime;
 use record::of_fields;
 use record::put_record;
 use records::back_after;
+use row::head_lines;
 use row_reader::no_window;
 use row_reader::row_in;
 use row_reader::window;
@@ -178,7 +179,7 @@ fn row_at(
     if text.len() <= feed {
         return 0;
     }
-    if text[feed] != 10 {
+    if text[feed] != b'\n' {
         return 0;
     }
     feed + 1
@@ -207,10 +208,10 @@ fn other_at(text: &[u8], at: usize) -> Other
 // The first pass, from line 3 on: every line is judged, and the rows are counted.
 fn judge(text: &[u8], from: usize, version: u64, start: u64) -> Judged
     requires { ⌜ Headed (now text) from version start × (length (now text) ≤ sizeLimit) ⌝ }
-    ensures { λ j. ⌜ Judges (now (text .entry)) version start j ⌝ }
+    ensures { λ j. ⌜ Judges 1 (now (text .entry)) version start j ⌝ }
 {
     let mut at = from;
-    let mut place: u64 = 2;
+    let mut place = head_lines(version);
     let mut rows: u64 = 0;
     let mut w = no_window();
     let mut base = from;
@@ -241,8 +242,8 @@ fn judge(text: &[u8], from: usize, version: u64, start: u64) -> Judged
 // The second pass: the records of the rows are packed into the output, which has room for them, and the first step back is found. No line is
 // refused any more: what starts with `;` is a comment, and all else a row.
 fn fill(text: &[u8], from: usize, version: u64, start: u64, out: &mut [u8]) -> u64
-    requires { ⌜ Headed (now text) from version start × Fits (now text) (now out) version start ⌝ }
-    ensures { λ b. ⌜ Filled (now (text .entry)) (now (out .entry)) (now (out .exit)) b ⌝ }
+    requires { ⌜ Headed (now text) from version start × Fits 1 (now text) (now out) version start ⌝ }
+    ensures { λ b. ⌜ Filled 1 (now (text .entry)) (now (out .entry)) (now (out .exit)) b ⌝ }
 {
     let mut at = from;
     let mut done: u64 = 0;
@@ -254,7 +255,7 @@ fn fill(text: &[u8], from: usize, version: u64, start: u64, out: &mut [u8]) -> u
     let mut fields = [0u64; 7];
     fill_window(text, from, &mut w);
     while at < text.len() {
-        if text[at] == 59 {
+        if text[at] == b';' {
             let l = other_at(text, at);
             match l {
                 Other::Note(after) => {

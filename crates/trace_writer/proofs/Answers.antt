@@ -2,7 +2,7 @@
 use Prim.Native.Nat.{ℕ, _≤_, _<_}
 use mathlib.Core.Path.{_≡_, refl, ap, sym, _∙_}
 use mathlib.Core.Logic.{_≢_}
-use mathlib.Core.List.{List, [], _∷_, _++_}
+use mathlib.Core.List.{List, _++_}
 use native.Mathlib.Omega.{arith}
 use lib.ListN.{length, take, drop, length-append}
 use lib.Seq.{take-at}
@@ -12,7 +12,8 @@ use Rattle.records.specs.Records.{packed, Whole, Holds, FirstMalformed}
 use Rattle.records.proofs.Lists.{each-at, first-one}
 use Rattle.records.proofs.Packing.{packed-length}
 use Rattle.records.proofs.Records.{holds-one, malformed-one, none-malformed}
-use Rattle.trace.specs.House.{traceText, Version, Writable}
+use Rattle.row.specs.Versions.{Version}
+use Rattle.trace.specs.House.{traceText, Writable}
 use Rattle.trace.specs.Trace.{Trace, traceOf}
 use Rattle.trace.proofs.HouseTexts.{trace-text}
 use Rattle.trace_writer.specs.declared.Written.{Written}

@@ -1,5 +1,4 @@
 pub mod Texts
-pub mod Carrying
 pub mod Rows
 pub mod Measuring
 pub mod Putting

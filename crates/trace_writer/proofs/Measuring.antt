@@ -11,7 +11,7 @@ use Rattle.record.specs.Record.{Packs}
 use Rattle.records.specs.Records.{none}
 use Rattle.records.proofs.Lists.{each-snoc}
 use Rattle.records.proofs.Through.{Through, through, through-more, all-through}
-use Rattle.row.specs.Carries.{Carries}
+use Rattle.row.specs.Versions.{Carries}
 use Rattle.row.specs.House.{rowText}
 use Rattle.trace.specs.House.{rowsText, Carried}
 use Rattle.trace.proofs.HouseTexts.{rows-none}
@@ -21,43 +21,44 @@ use Rattle.trace_writer.specs.Passes.{ended, RowBytes, carried, misfit, 
 use Rattle.trace_writer.specs.Passes
 use Rattle.trace_writer.proofs.Rows.{rows-snoc}
 
-pub record Measuring (version : ℕ) (s : List ℕ) (at k bytes first : ℕ) : Type 0 where
+-- The first row has number `first`, and `wrong` is the first misfit, or 0.
+pub record Measuring (version first : ℕ) (s : List ℕ) (at k bytes wrong : ℕ) : Type 0 where
   pub judged : Through s at k
-  pub bounded : bytes ≤ 69 * k
-  pub fits : first ≡ 0 → Carried version (judged .records) × (bytes ≡ length (rowsText version 1 (judged .records)))
-  pub unfit : first ≢ 0 → FirstMisfit version (judged .records) first
+  pub bounded : bytes ≤ 66 * k
+  pub fits : wrong ≡ 0 → Carried version (judged .records) × (bytes ≡ length (rowsText version first (judged .records)))
+  pub unfit : wrong ≢ 0 → FirstMisfit version (judged .records) wrong
 
-pub measuring : (version : ℕ) (s : List ℕ) → Measuring version s 0 0 0 0
-measuring version s = record {
+pub measuring : (version first : ℕ) (s : List ℕ) → Measuring version first s 0 0 0 0
+measuring version first s = record {
   judged = through s;
   bounded = omega arith;
   fits = λ e. (none, rw rows-none);
   unfit = λ f. absurd (f refl);
 }
 
-module _ {version : ℕ} {s : List ℕ} {at k bytes first : ℕ} (m : Measuring version s at k bytes first) where
+module _ {version first : ℕ} {s : List ℕ} {at k bytes wrong : ℕ} (m : Measuring version first s at k bytes wrong) where
   -- One record more: carried or not.
-  module _ {r : Record} {n new : ℕ} (h : at + 20 ≤ length s) (p : Packs r (take 20 (drop at s))) (a : MisfitAfter first (k + 1) n new) where
-    some : Carries r version → n ≡ length (ended (rowText version (k + 1) r)) → n ≢ 0
-    some c e z = omega (arith, length-append (rowText version (k + 1) r) (13 ∷ 10 ∷ []))
+  module _ {r : Record} {n new : ℕ} (h : at + 20 ≤ length s) (p : Packs r (take 20 (drop at s))) (a : MisfitAfter wrong (k + 1) n new) where
+    some : Carries r version → n ≡ length (ended (rowText version (first + k) r)) → n ≢ 0
+    some c e z = omega (arith, length-append (rowText version (first + k) r) (13 ∷ 10 ∷ []))
 
-    fits-more : RowBytes version (k + 1) r n → new ≡ 0
-        → Carried version (m .judged .records ++ (r ∷ [])) × (bytes + n ≡ length (rowsText version 1 (m .judged .records ++ (r ∷ []))))
-    fits-more b z = go (ℕ-discrete first 0) b
+    fits-more : RowBytes version (first + k) r n → new ≡ 0
+        → Carried version (m .judged .records ++ (r ∷ [])) × (bytes + n ≡ length (rowsText version first (m .judged .records ++ (r ∷ []))))
+    fits-more b z = go (ℕ-discrete wrong 0) b
       where
-        go : Dec (first ≡ 0) → RowBytes version (k + 1) r n
-            → Carried version (m .judged .records ++ (r ∷ [])) × (bytes + n ≡ length (rowsText version 1 (m .judged .records ++ (r ∷ []))))
+        go : Dec (wrong ≡ 0) → RowBytes version (first + k) r n
+            → Carried version (m .judged .records ++ (r ∷ [])) × (bytes + n ≡ length (rowsText version first (m .judged .records ++ (r ∷ []))))
         go (no f) b = absurd (f (sym (a .kept f) ∙ z))
         go (yes o) (misfit f e) = absurd (omega (arith, a .found o e))
         go (yes o) (carried c e) =
             let f = m .fits o in
-            let l = rw (← (m .judged .counted)) at (ap length (rows-snoc version (m .judged .records) r)) in
-            (each-snoc (f .0) c, omega (arith, f .1, e, l, length-append (rowsText version 1 (m .judged .records)) (ended (rowText version (k + 1) r))))
+            let l = rw (← (m .judged .counted)) at (ap length (rows-snoc version first (m .judged .records) r)) in
+            (each-snoc (f .0) c, omega (arith, f .1, e, l, length-append (rowsText version first (m .judged .records)) (ended (rowText version (first + k) r))))
 
-    unfit-more : RowBytes version (k + 1) r n → new ≢ 0 → FirstMisfit version (m .judged .records ++ (r ∷ [])) new
-    unfit-more b z = go (ℕ-discrete first 0) b
+    unfit-more : RowBytes version (first + k) r n → new ≢ 0 → FirstMisfit version (m .judged .records ++ (r ∷ [])) new
+    unfit-more b z = go (ℕ-discrete wrong 0) b
       where
-        go : Dec (first ≡ 0) → RowBytes version (k + 1) r n → FirstMisfit version (m .judged .records ++ (r ∷ [])) new
+        go : Dec (wrong ≡ 0) → RowBytes version (first + k) r n → FirstMisfit version (m .judged .records ++ (r ∷ [])) new
         go (yes o) (carried c e) = absurd (z (a .none o (some c e)))
         go (yes o) (misfit f e) = record {
           before = m .judged .records;
@@ -80,16 +81,19 @@ module _ {version : ℕ} {s : List ℕ} {at k bytes first : ℕ} (m : Measuring 
               at = a .kept f ∙ u .at;
             }
 
-    pub measured-more : RowBytes version (k + 1) r n × (n ≤ 69) → Measuring version s (at + 20) (k + 1) (bytes + n) new
-    measured-more b = record {
-      judged = through-more (m .judged) h p;
-      bounded = omega (arith, m .bounded, b .1);
-      fits = fits-more (b .0);
-      unfit = unfit-more (b .0);
-    }
+    pub measured-more : {number : ℕ} → number ≡ first + k → RowBytes version number r n × (n ≤ 66)
+        → Measuring version first s (at + 20) (k + 1) (bytes + n) new
+    measured-more q b =
+        let x = rw q at (b .0) in
+        record {
+          judged = through-more (m .judged) h p;
+          bounded = omega (arith, m .bounded, b .1);
+          fits = fits-more x;
+          unfit = unfit-more x;
+        }
 
-  pub measured : length s ≤ at → first ≡ 0 → Measures version s (size.Bytes bytes)
+  pub measured : length s ≤ at → wrong ≡ 0 → Measures version first s (size.Bytes bytes)
   measured h z = let f = m .fits z in (m .judged .records, all-through (m .judged) h, f .0, f .1)
 
-  pub misfit-found : length s ≤ at → first ≢ 0 → Unfit version s 24 first
+  pub misfit-found : length s ≤ at → wrong ≢ 0 → Unfit version s 24 wrong
   misfit-found h f = Passes.misfit (all-through (m .judged) h) (m .unfit f)

@@ -11,34 +11,35 @@ use Rattle.record.specs.declared.Record.{Record}
 use Rattle.record.specs.Record.{WellFormed, Packs}
 use Rattle.records.proofs.Lists.{each-head, each-tail}
 use Rattle.records.proofs.Ahead.{Ahead, ahead, later, after-next, ahead-more, all-behind}
-use Rattle.row.specs.Carries.{Carries}
+use Rattle.row.specs.Versions.{Carries}
 use Rattle.row.specs.House.{rowText}
 use Rattle.trace.specs.House.{rowsText, Carried}
 use Rattle.trace.proofs.HouseTexts.{rows-none, rows-more}
 use Rattle.trace_writer.specs.Passes.{Fits, RowsPut}
 use Rattle.trace_writer.proofs.Rows.{rows-snoc}
 
-pub record Putting (version : ℕ) (s old out : List ℕ) (from at k p : ℕ) : Type 0 where
+-- The first row has number `first`, and k + 1 is that of the next.
+pub record Putting (version first : ℕ) (s old out : List ℕ) (from at k p : ℕ) : Type 0 where
   pub records : Ahead s at
   pub carried : Carried version (records .after)
-  pub counted : k ≡ length (records .before)
+  pub counted : k + 1 ≡ first + length (records .before)
   pub few : k + length (records .after) ≤ lastNumber
-  pub wrote : Wrote old out from p (rowsText version 1 (records .before))
+  pub wrote : Wrote old out from p (rowsText version first (records .before))
   pub room : p + length (rowsText version (k + 1) (records .after)) ≤ length old
   pub same : length out ≡ length old
 
-pub putting : {version from : ℕ} {s old : List ℕ} → Fits version s old from → Putting version s old old from 0 0 from
-putting {version} {from} f = record {
+pub putting : {version first from k : ℕ} {s old : List ℕ} → k + 1 ≡ first → Fits version first s old from → Putting version first s old old from 0 k from
+putting q f = record {
   records = ahead (f .holds);
   carried = f .carried;
-  counted = refl;
+  counted = omega arith;
   few = let a = f .few in omega arith;
   wrote = rw rows-none (record { next = omega arith; stored = refl });
-  room = f .room;
+  room = rw q (f .room);
   same = refl;
 }
 
-module _ {version : ℕ} {s old out : List ℕ} {from at k p : ℕ} (f : Putting version s old out from at k p) {r : Record} (h : at < length s) (b : Packs r (take 20 (drop at s))) where
+module _ {version first : ℕ} {s old out : List ℕ} {from at k p : ℕ} (f : Putting version first s old out from at k p) {r : Record} (h : at < length s) (b : Packs r (take 20 (drop at s))) where
   abbrev rest : List Record
   rest = later (f .records) h b
 
@@ -59,7 +60,7 @@ module _ {version : ℕ} {s old out : List ℕ} {from at k p : ℕ} (f : Putting
 
   -- It is put.
   pub put-more : {mid new : List ℕ} {q e : ℕ} → Wrote out mid p q (rowText version (k + 1) r) → Wrote mid new q e (13 ∷ 10 ∷ []) → length new ≡ length old
-      → Putting version s old new from (at + 20) (k + 1) e
+      → Putting version first s old new from (at + 20) (k + 1) e
   put-more u v l =
       let w = then u v in
       record {
@@ -72,5 +73,6 @@ module _ {version : ℕ} {s old out : List ℕ} {from at k p : ℕ} (f : Putting
         same = l;
       }
 
-pub rows-put : {version : ℕ} {s old out : List ℕ} {from at k p : ℕ} → Putting version s old out from at k p → length s ≤ at → RowsPut version s old out from
+pub rows-put : {version first : ℕ} {s old out : List ℕ} {from at k p : ℕ} → Putting version first s old out from at k p → length s ≤ at
+    → RowsPut version first s old out from
 rows-put {p = p} f h = record { rows = λ rs g. (p, rw (all-behind (f .records) h g) (f .wrote)) }

@@ -2,7 +2,6 @@
 use Prim.Native.Nat.{ℕ, _+_}
 use mathlib.Core.Path.{_≡_}
 use mathlib.Core.List.{List, [], _∷_, _++_}
-use native.Mathlib.Omega.{arith}
 use lib.ListN.{length}
 use Rattle.record.specs.declared.Record.{Record}
 use Rattle.row.specs.House.{rowText}
@@ -11,7 +10,6 @@ use Rattle.trace.proofs.HouseTexts.{rows-none, rows-more, rows-append}
 use Rattle.trace_writer.specs.Passes.{ended}
 
 -- One row more.
-pub rows-snoc : (version : ℕ) (rs : List Record) (r : Record) → rowsText version 1 (rs ++ (r ∷ [])) ≡ rowsText version 1 rs ++ ended (rowText version (length rs + 1) r)
-rows-snoc version rs r =
-    let e : 1 + length rs ≡ length rs + 1 = omega arith in
-    rw (rows-append version 1 rs (r ∷ []), e, rows-more, rows-none)
+pub rows-snoc : (version first : ℕ) (rs : List Record) (r : Record)
+    → rowsText version first (rs ++ (r ∷ [])) ≡ rowsText version first rs ++ ended (rowText version (first + length rs) r)
+rows-snoc version first rs r = rw (rows-append version first rs (r ∷ []), rows-more, rows-none)

@@ -8,13 +8,15 @@ use Rattle.digits.specs.House.{decimalText, paddedText, figureOf}
 use Rattle.digits.proofs.House.{length-fixed}
 use Rattle.clock.specs.Start.{dayMs}
 use Rattle.lines.specs.Lines.{startText}
+use Rattle.lines.proofs.Lines.{fileText}
 use Rattle.trace.specs.House.{versionLineText, dayFraction, startLineText}
 use Rattle.trace.proofs.HouseTexts.{version-line, start-line}
 use Rattle.trace_writer.specs.Passes.{ended, headText}
 
 -- What is put together in steps.
 
-pub version-cut : (version : ℕ) → ended (versionLineText version) ≡ (59 ∷ 36 ∷ 70 ∷ 73 ∷ 76 ∷ 69 ∷ 86 ∷ 69 ∷ 82 ∷ 83 ∷ 73 ∷ 79 ∷ 78 ∷ 61 ∷ 49 ∷ 46 ∷ []) ++ ((48 + version % 10) ∷ 13 ∷ 10 ∷ [])
+pub version-cut : (version : ℕ) → ended (versionLineText version)
+    ≡ (59 ∷ fileText) ++ ((48 + version / 10) ∷ 46 ∷ (48 + version % 10) ∷ 13 ∷ 10 ∷ [])
 version-cut version = rw version-line
 
 pub start-cut : (start : ℕ)

@@ -10,8 +10,9 @@ use Rattle.clock.specs.Start.{startLimit}
 use Rattle.record.specs.declared.Record.{Record}
 use Rattle.records.specs.Records.{Whole, Holds}
 use Rattle.records.proofs.Packing.{packed-length}
+use Rattle.row.specs.Versions.{Version}
 use Rattle.trace.specs.Trace.{traceOf}
-use Rattle.trace.specs.House.{versionLineText, startLineText, rowsText, traceText, Version, Carried, Writable}
+use Rattle.trace.specs.House.{versionLineText, startLineText, rowsText, traceText, Carried, Writable}
 use Rattle.trace.proofs.HouseTexts.{trace-text, rows-size}
 use Rattle.trace_writer.specs.Promise.{Stopped, malformed, misfit}
 use Rattle.trace_writer.specs.Passes.{ended, headText, Unfit, RowsPut}
@@ -36,7 +37,7 @@ writable {rs = rs} w v l h c = record {
 }
 
 -- The rows fit a machine word many times over.
-pub rows-few : {version start : ℕ} {rs : List Record} → Writable (traceOf version start rs) → length (rowsText version 1 rs) ≤ 68999931
+pub rows-few : {version start : ℕ} {rs : List Record} → Writable (traceOf version start rs) → length (rowsText version 1 rs) ≤ 65999934
 rows-few w = let f = w .few in omega (arith, rows-size 1 (w .formed) (w .carried) (omega arith))
 
 -- The first record that can't be written stops the rest.
@@ -46,7 +47,7 @@ unfit-stopped w v l (Passes.misfit h f) = misfit w v l h f
 
 -- Line 1, line 2 and the rows are the house spelling.
 pub all-written : {p q : ℕ} {s old one two new : List ℕ} (version start : ℕ) (rs : List Record) → Holds rs s → Wrote old one 0 p (ended (versionLineText version))
-    → Wrote one two p q (ended (startLineText start)) → RowsPut version s two new q → length (traceText (traceOf version start rs)) ≤ length old
+    → Wrote one two p q (ended (startLineText start)) → RowsPut version 1 s two new q → length (traceText (traceOf version start rs)) ≤ length old
     → new ≡ traceText (traceOf version start rs) ++ drop (length (traceText (traceOf version start rs))) old
 all-written version start rs h a b r l =
     at-start {t = traceText (traceOf version start rs)} (rw (← (trace-cut version start rs)) at (then (then a b) (r .rows rs h .1))) l

@@ -4,11 +4,12 @@ use mathlib.Core.Path.{_≡_}
 use mathlib.Core.Logic.{_≢_}
 use mathlib.Core.List.{List, [], _∷_, _++_}
 use lib.ListN.{length}
+use Rattle.base.specs.Text.{cr, lf}
 use Rattle.base.specs.Wrote.{Wrote}
 use Rattle.fields.specs.Columns.{lastNumber}
 use Rattle.record.specs.declared.Record.{Record}
 use Rattle.records.specs.Records.{Holds, FirstMalformed}
-use Rattle.row.specs.Carries.{Carries}
+use Rattle.row.specs.Versions.{Carries}
 use Rattle.row.specs.House.{rowText}
 use Rattle.trace.specs.House.{versionLineText, startLineText, rowsText, Carried}
 use Rattle.trace_writer.specs.declared.Size.{Size}
@@ -17,7 +18,7 @@ use Rattle.trace_writer.specs.Promise.{FirstMisfit}
 
 -- A line with its end.
 abbrev pub ended : List ℕ → List ℕ
-ended line = line ++ (13 ∷ 10 ∷ [])
+ended line = line ++ (cr ∷ lf ∷ [])
 
 -- Lines 1 and 2.
 abbrev pub headText : ℕ → ℕ → List ℕ
@@ -39,19 +40,19 @@ pub data Unfit (version : ℕ) (s : List ℕ) : ℕ → ℕ → Type 0 where
   malformed : {place : ℕ} → FirstMalformed s place → Unfit version s 23 place
   misfit : {rs : List Record} {place : ℕ} → Holds rs s → FirstMisfit version rs place → Unfit version s 24 place
 
--- How many bytes the rows are, or the first record that can't be written.
-abbrev pub Measures : ℕ → List ℕ → Size → Type 0
-Measures version s (size.Bytes n) = (rs : List Record) × Holds rs s × Carried version rs × (n ≡ length (rowsText version 1 rs))
-Measures version s (size.Bad n p) = Unfit version s n p
+-- How many bytes the rows from number `first` on are, or the first record that can't be written.
+abbrev pub Measures : ℕ → ℕ → List ℕ → Size → Type 0
+Measures version first s (size.Bytes n) = (rs : List Record) × Holds rs s × Carried version rs × (n ≡ length (rowsText version first rs))
+Measures version first s (size.Bad n p) = Unfit version s n p
 
--- The records can be written behind `at`.
-pub record Fits (version : ℕ) (s out : List ℕ) (at : ℕ) : Type 0 where
+-- The records can be written behind `at`, the first as the row with this number.
+pub record Fits (version first : ℕ) (s out : List ℕ) (at : ℕ) : Type 0 where
   pub records : List Record
   pub holds : Holds records s
   pub carried : Carried version records
-  pub few : length records ≤ lastNumber
-  pub room : at + length (rowsText version 1 records) ≤ length out
+  pub few : first + length records ≤ lastNumber + 1
+  pub room : at + length (rowsText version first records) ≤ length out
 
 -- Whatever records the bytes are, their rows were put at `at`.
-pub record RowsPut (version : ℕ) (s before after : List ℕ) (at : ℕ) : Type 0 where
-  pub rows : (rs : List Record) → Holds rs s → (next : ℕ) × Wrote before after at next (rowsText version 1 rs)
+pub record RowsPut (version first : ℕ) (s before after : List ℕ) (at : ℕ) : Type 0 where
+  pub rows : (rs : List Record) → Holds rs s → (next : ℕ) × Wrote before after at next (rowsText version first rs)

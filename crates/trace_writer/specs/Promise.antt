@@ -6,9 +6,9 @@ use lib.ListN.{length, drop}
 use Rattle.clock.specs.Start.{startLimit}
 use Rattle.record.specs.declared.Record.{Record}
 use Rattle.records.specs.Records.{packed, Whole, Holds, FirstMalformed}
-use Rattle.row.specs.Carries.{Carries}
+use Rattle.row.specs.Versions.{Version, Carries}
 use Rattle.trace.specs.Trace.{traceOf}
-use Rattle.trace.specs.House.{traceText, Version, Carried, Writable}
+use Rattle.trace.specs.House.{traceText, Carried, Writable}
 use Rattle.trace_writer.specs.declared.Written.{Written}
 use Rattle.trace_writer.specs.declared.Written.the-variants as written
 

@@ -1,5 +1,6 @@
 // A whole trace, written from packed records as the house spells it. The first pass judges and measures, the second writes.
 use base::put_byte;
+use base::put_end;
 use base::put_text;
 use clock::DAY_MS;
 use clock::START_LIMIT;
@@ -15,20 +16,22 @@ use record::packed_at;
 use records::Entry;
 use records::record_at;
 use records::whole;
+use row::carries;
+use row::is_version;
 use row_writer::put_row;
 use row_writer::row_length;
 ghost use mathlib.Core.Path.{_≡_};
-ghost use mathlib.Core.List.{[], _∷_};
 ghost use Prim.Native.Nat.{_+_, _≤_};
 ghost use lib.ListN.{length};
 ghost use Rattle.base.specs.Decides.{Decides};
+ghost use Rattle.base.specs.Text.{cr, lf};
 ghost use Rattle.base.specs.Wrote.{Wrote};
 ghost use Rattle.clock.specs.Start.{startLimit};
 ghost use Rattle.fields.specs.Columns.{lastNumber};
 ghost use Rattle.record.specs.Record.{WellFormed};
 ghost use Rattle.records.specs.Records.{Whole};
-ghost use Rattle.row.specs.Carries.{Carries};
-ghost use Rattle.trace.specs.House.{Version, versionLineText, startLineText};
+ghost use Rattle.row.specs.Versions.{Version};
+ghost use Rattle.trace.specs.House.{versionLineText, startLineText};
 ghost use Rattle.trace_writer.specs.Promise.{writeNumbers, WritePromise};
 ghost use Rattle.trace_writer.specs.Passes.{ended, headText, RowBytes, MisfitAfter, Measures, Fits, RowsPut};
 
@@ -44,23 +47,16 @@ pub enum Size {
     Bad { number: u64, place: u64 },
 }
 
-// CR LF.
-fn put_end(out: &mut [u8], at: usize) -> usize
-    requires { ⌜ at + 2 ≤ length (now out) ⌝ }
-    ensures { λ r. ⌜ Wrote (now (out .entry)) (now (out .exit)) at r (13 ∷ 10 ∷ []) ⌝ }
-{
-    let p = put_byte(out, at, 13);
-    put_byte(out, p, 10)
-}
-
 // Line 1.
 fn put_version_line(out: &mut [u8], at: usize, version: u64) -> usize
-    requires { ⌜ at + length (ended (versionLineText version)) ≤ length (now out) ⌝ }
+    requires { ⌜ Version version × (at + length (ended (versionLineText version)) ≤ length (now out)) ⌝ }
     ensures { λ r. ⌜ Wrote (now (out .entry)) (now (out .exit)) at r (ended (versionLineText version)) ⌝ }
 {
-    let p = put_text(out, at, b";$FILEVERSION=1.");
-    let q = put_decimal(out, p, version % 10);
-    put_end(out, q)
+    let p = put_text(out, at, b";$FILEVERSION=");
+    let q = put_decimal(out, p, version / 10);
+    let s = put_byte(out, q, b'.');
+    let t = put_decimal(out, s, version % 10);
+    put_end(out, t)
 }
 
 // Line 2.
@@ -70,13 +66,14 @@ fn put_start_line(out: &mut [u8], at: usize, start: u64) -> usize
 {
     let p = put_text(out, at, b";$STARTTIME=");
     let q = put_decimal(out, p, start / DAY_MS);
-    let s = put_byte(out, q, 46);
+    let s = put_byte(out, q, b'.');
     let t = put_padded(out, s, 10, day_fraction(start % DAY_MS));
     put_end(out, t)
 }
 
-// The bytes of lines 1 and 2 beside the digits of the day: `;$FILEVERSION=1.`, a digit, CR LF; `;$STARTTIME=`, the point, ten digits, CR LF.
-const HEAD: usize = 16 + 1 + 2 + 12 + 1 + 10 + 2;
+// The bytes of lines 1 and 2 beside the digits of the day: `;$FILEVERSION=`, two figures and a point, CR LF; `;$STARTTIME=`, the point, ten
+// digits, CR LF.
+const HEAD: usize = 14 + 3 + 2 + 12 + 1 + 10 + 2;
 
 // How many bytes lines 1 and 2 are.
 fn head_length(version: u64, start: u64) -> usize
@@ -85,32 +82,10 @@ fn head_length(version: u64, start: u64) -> usize
     decimal_length(start / DAY_MS) + HEAD
 }
 
-// Whether a version can carry a record.
-fn carries(r: Record, version: u64) -> bool
-    ensures { λ b. ⌜ Decides (Carries r version) b ⌝ }
-{
-    if version == 11 {
-        if r.bus != 0 {
-            return false;
-        }
-        return r.offset % 100 == 0;
-    }
-    if version != 12 {
-        return false;
-    }
-    if r.bus == 0 {
-        return false;
-    }
-    if 16 < r.bus {
-        return false;
-    }
-    true
-}
-
 // How many bytes a row with its end is, or 0 if the version can't carry it.
 fn row_bytes(version: u64, k: u64, r: Record) -> usize
     requires { ⌜ WellFormed r × (1 ≤ k) × (k ≤ lastNumber) ⌝ }
-    ensures { λ n. ⌜ RowBytes version k r n × (n ≤ 69) ⌝ }
+    ensures { λ n. ⌜ RowBytes version k r n × (n ≤ 66) ⌝ }
 {
     if !carries(r, version) {
         return 0;
@@ -134,7 +109,7 @@ fn misfit_after(misfit: u64, k: u64, n: usize) -> u64
 // The first pass: every record is judged, and the rows are measured.
 fn measure(version: u64, records: &[u8]) -> Size
     requires { ⌜ Whole (now records) ⌝ }
-    ensures { λ m. ⌜ Measures version (now (records .entry)) m ⌝ }
+    ensures { λ m. ⌜ Measures version 1 (now (records .entry)) m ⌝ }
 {
     let mut at: usize = 0;
     let mut k: u64 = 0;
@@ -166,8 +141,8 @@ fn measure(version: u64, records: &[u8]) -> Size
 // The second pass: the rows are put behind `from`, where there is room. No record is judged any more. The digits of the row number over ten
 // are kept in `tens` from row to row, and those of the offset's whole seconds in `seconds`: `last` is their number.
 fn put_rows(version: u64, records: &[u8], out: &mut [u8], from: usize)
-    requires { ⌜ Fits version (now records) (now out) from ⌝ }
-    ensures { λ _. ⌜ RowsPut version (now (records .entry)) (now (out .entry)) (now (out .exit)) from ⌝ }
+    requires { ⌜ Fits version 1 (now records) (now out) from ⌝ }
+    ensures { λ _. ⌜ RowsPut version 1 (now (records .entry)) (now (out .entry)) (now (out .exit)) from ⌝ }
 {
     let mut at = 0;
     let mut k: u64 = 0;
@@ -225,13 +200,11 @@ pub fn write(version: u64, start: u64, records: &[u8], out: &mut [u8]) -> Writte
             place: 0,
         };
     }
-    if version != 11 {
-        if version != 12 {
-            return Written::Refused {
-                number: 21,
-                place: 0,
-            };
-        }
+    if !is_version(version) {
+        return Written::Refused {
+            number: 21,
+            place: 0,
+        };
     }
     if START_LIMIT < start {
         return Written::Refused {

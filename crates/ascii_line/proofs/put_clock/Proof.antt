@@ -11,21 +11,8 @@ put-clock-spec =
     (λ c κs. search needs)
     (λ c κs. search needs)
     (λ c κs. search needs)
-    (λ c κs. search needs)
-    (λ c κs. search needs)
-    (λ c κs. search needs)
     (λ c. search needs)
     (λ c.
-    let e = c .before .before .before .before .before .before in
-    let d = e .before .before .before .before in
-    let m = d .before .before .before .before in
-    let b = m .before .before .before .before in
-    let a = b .before .before .before .before in (
-      rw clock
-          (then (a .put-padded .ensures .0)
-          (then (b .put-byte .ensures)
-          (then (m .put-padded2 .ensures .0)
-          (then (d .put-byte2 .ensures)
-          (then (e .put-padded3 .ensures .0) (c .before .before .put-byte3 .ensures)))))),
-      search needs,
-    )))
+    let q = c .before .before .before .before .before .before in
+    let p = q .before .before .before .before in
+    (rw clock (then (p .put-two .ensures .0) (then (q .put-padded .ensures .0) (c .before .before .put-byte .ensures))), search needs)))

@@ -10,17 +10,7 @@ put-date-spec =
     tie.close (tie.spec
     (λ c κs. search needs)
     (λ c κs. search needs)
-    (λ c κs. search needs)
-    (λ c κs. search needs)
-    (λ c κs. search needs)
     (λ c. search needs)
     (λ c.
-    let e = c .before .before .before .before .before .before in
-    let d = e .before .before .before .before in
-    let b = d .before .before .before .before in
-    let a = b .before .before .before .before in (
-      rw date
-          (then (a .put-padded .ensures .0)
-          (then (b .put-byte .ensures) (then (d .put-padded2 .ensures .0) (then (e .put-byte2 .ensures) (c .before .before .put-padded3 .ensures .0))))),
-      search needs,
-    )))
+    let p = c .before .before .before .before .before .before in
+    (rw date (then (p .put-two .ensures .0) (c .before .before .put-padded .ensures .0)), search needs)))

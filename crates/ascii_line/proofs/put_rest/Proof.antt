@@ -11,10 +11,9 @@ put-rest-spec =
     tie.close (tie.spec
     (λ c κs. let a = c .before .before in (a .pre .0, omega (arith, rest-length (a .args .r))))
     (λ c κs. let a = c .before .before .before .before .before .before in (a .pre .1, omega (arith, rest-length (a .args .r)), a .pre .3))
-    (λ c. search needs)
-    (λ c κs. let a = c .before .before .before .before .before .before .before .before .before .before .before in omega (arith, rest-length (a .args .r)))
+    (λ c κs. omega (arith, rest-length (c .before .before .before .before .before .before .before .before .before .before .args .r)))
     (λ c. search needs)
     (λ c.
-    let q = c .before .before .before .before .before .before .before in
+    let q = c .before .before .before .before .before .before in
     let p = q .before .before .before .before in
-    then (p .put-id .ensures) (then (q .put-data .ensures) (c .before .before .put-text .ensures))))
+    then (p .put-id .ensures) (then (q .put-data .ensures) (c .before .before .put-end .ensures))))

@@ -3,7 +3,7 @@ use mathlib.Core.Path.{refl}
 use native.Mathlib.Omega.{arith}
 use borrow.Author.Needs.{needs}
 use Rattle.lines.specs.Parts.{opened, none}
-use Rattle.lines.proofs.Scans.{opens, first-byte}
+use Rattle.lines.proofs.Scans.{blanks-ran, opens, first-byte}
 use Rattle.lines.proofs.opened.Statement.{statement}
 use Rattle.lines.proofs.opened.Tie as tie
 
@@ -15,4 +15,4 @@ opened-spec =
     (λ c. search needs)
     (λ c. none refl (λ rest e. c .if2 .taken (first-byte e .1)))
     (λ c κs. search needs)
-    (λ c. opened (opens (omega arith) (c .before .if2 .left) (c .blanks-end .ensures))))
+    (λ c. opened (opens (omega arith) (c .before .if2 .left) (blanks-ran (c .run-end .ensures)))))

@@ -4,9 +4,10 @@ use mathlib.Core.Path.{_≡_}
 use native.Mathlib.Omega.{arith}
 use borrow.Author.Needs.{needs}
 use lib.ListN.{length, getD}
+use Rattle.base.proofs.Tests.{shown-not, refuted-not}
 use Rattle.lines.specs.Lines.{startText, StartLine}
 use Rattle.lines.specs.Parts.{Opened, Stands}
-use Rattle.lines.proofs.Scans.{holds, fails, room, is-opened, not-opened, part, to-end, not-end}
+use Rattle.lines.proofs.Scans.{blanks-ran, digits-ran, room, is-opened, not-opened, part, to-end, not-end}
 use Rattle.lines.proofs.Lines.{start-stands, start-point, start-blanks, start-answer}
 use Rattle.lines.proofs.start_line.Statement.{statement}
 use Rattle.lines.proofs.start_line.Tie as tie
@@ -17,15 +18,15 @@ place c = is-opened (c .before .opened .ensures) (c .if1 .left)
 
 -- `$STARTTIME=` stands there
 text : (c : tie.Else2) → let o = c .before .before .before .before in Stands startText (o .before .before .args .line .now) (o .opened .result)
-text c = holds (c .before .stands .result) (c .before .stands .ensures) (c .if2 .left)
+text c = shown-not (c .before .stands .result) (c .before .stands .ensures) (c .if2 .left)
 
 wide : (c : tie.Else2) → let o = c .before .before .before .before in o .opened .result + 11 ≤ length (o .before .before .args .line .now)
 wide c = room (text c) (place (c .before .before .before) .within)
 
 -- the point of any start line
-point : (c : tie.After-digits-end) {s : ℕ} → let line = c .before .before .before .before .before .before .before .args .line .now in
-    StartLine s line → (c .digits-end .result < length line) × (getD line (c .digits-end .result) 0 ≡ 46)
-point c = start-point (place (c .before .before .before .before)) (text (c .before)) (c .digits-end .ensures)
+point : (c : tie.After-run-end) {s : ℕ} → let line = c .before .before .before .before .before .before .before .args .line .now in
+    StartLine s line → (c .run-end .result < length line) × (getD line (c .run-end .result) 0 ≡ 46)
+point c = start-point (place (c .before .before .before .before)) (text (c .before)) (digits-ran (c .run-end .ensures))
 
 pub start-line-spec : {M : Type 1} → statement M
 start-line-spec =
@@ -35,7 +36,7 @@ start-line-spec =
     (λ c s l. not-opened (c .before .opened .ensures) (c .if1 .taken) (l .bytes))
     (λ c. search needs)
     (λ c κs. place (c .before) .within)
-    (λ c s l. let a = c .before .stands in fails (a .result) (a .ensures) (c .if2 .taken) (start-stands (place (c .before .before .before)) l))
+    (λ c s l. let a = c .before .stands in refuted-not (a .result) (a .ensures) (c .if2 .taken) (start-stands (place (c .before .before .before)) l))
     (λ c. let h = wide c in omega arith)
     (λ c κs. let h = wide c in omega arith)
     (λ c s l. let h = point (c .before) l .0 in omega arith)
@@ -46,8 +47,8 @@ start-line-spec =
     (λ c κs. search needs)
     (λ c s l. let a = c .before .before .before .before .before .before in
     let o = place (a .before .before .before .before) in
-    not-end (c .before .blanks-end .ensures) (c .if5 .taken)
-    (start-blanks o (text (a .before)) (a .digits-end .ensures) (c .before .before .digits-end2 .ensures) l))
+    not-end (blanks-ran (c .before .run-end3 .ensures)) (c .if5 .taken)
+    (start-blanks o (text (a .before)) (digits-ran (a .run-end .ensures)) (digits-ran (c .before .before .run-end2 .ensures)) l))
     (λ c. search needs)
     (λ c. search needs)
     (λ c. search needs)
@@ -56,10 +57,10 @@ start-line-spec =
     (λ c. search needs)
     (λ c κs. search needs)
     (λ c. let a = c .before .before .before .before .before .before .before .before .before in
-    let day = a .digits-end .ensures in
-    let fraction = c .before .before .before .before .before .digits-end2 .ensures in
+    let day = digits-ran (a .run-end .ensures) in
+    let fraction = digits-ran (c .before .before .before .before .before .run-end2 .ensures) in
     start-answer (place (a .before .before .before .before)) (text (a .before)) day fraction (c .start-of-digits .result)
     (let w = day .within in let n = c .before .before .before .before .before .before .before .before .if3 .left in omega arith)
     (c .before .before .before .before .before .before .if4 .left)
-    (to-end (c .before .before .before .before .blanks-end .ensures) (c .before .before .before .if5 .left))
+    (to-end (blanks-ran (c .before .before .before .before .run-end3 .ensures)) (c .before .before .before .if5 .left))
     (rw (part day, part fraction) at (c .start-of-digits .ensures))))

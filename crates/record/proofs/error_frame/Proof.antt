@@ -1,8 +1,7 @@
 -- `record::error_frame` meets its contract.
 use native.Mathlib.Omega.{arith}
 use borrow.Author.Needs.{needs}
-use borrow.Author.Tests.{not-true, not-false}
-use Rattle.base.proofs.Tests.{same-test, shown, refuted}
+use Rattle.base.proofs.Tests.{same-test, shown-not, refuted-not}
 use Rattle.record.proofs.error_frame.Statement.{statement}
 use Rattle.record.proofs.error_frame.Tie as tie
 
@@ -13,11 +12,11 @@ error-frame-spec =
     (λ c. search needs)
     (λ c. search needs)
     (λ c κs. search needs)
-    (λ c q. refuted (c .before .error-id .result) (not-true _ (c .if4 .taken)) (c .before .error-id .ensures) (q .id))
+    (λ c q. refuted-not (c .before .error-id .result) (c .before .error-id .ensures) (c .if4 .taken) (q .id))
     (λ c κs. search needs)
     (λ c.
     let e = c .before .before .before .error-id in
-    let i = shown (e .result) (not-false _ (c .before .before .if4 .left)) (e .ensures) in
+    let i = shown-not (e .result) (e .ensures) (c .before .before .if4 .left) in
     same-test (c .position .result)
     (λ p. record { extended = omega arith; id = i; len = omega arith; first = omega arith; second = p })
     (λ q. q .second)

@@ -2,9 +2,8 @@
 use mathlib.Core.Path.{refl, _∙_}
 use native.Mathlib.Omega.{arith}
 use borrow.Author.Needs.{needs}
-use borrow.Author.Tests.{not-true, not-false}
 use Rattle.record.specs.Promise.{PackPromise}
-use Rattle.base.proofs.Tests.{shown, refuted}
+use Rattle.base.proofs.Tests.{shown-not, refuted-not}
 use Rattle.record.proofs.OneRecord.{packs}
 use Rattle.record.proofs.Promises.{at-start}
 use Rattle.record.proofs.pack.Statement.{statement}
@@ -16,16 +15,16 @@ pack-spec =
     (λ c κs. search needs)
     (λ c.
     let w = c .before .well-formed in
-    PackPromise.malformed (refuted (w .result) (not-true _ (c .if1 .taken)) (w .ensures)) refl refl)
+    PackPromise.malformed (refuted-not (w .result) (w .ensures) (c .if1 .taken)) refl refl)
     (λ c.
     let w = c .before .before .well-formed in
-    PackPromise.short (shown (w .result) (not-false _ (c .before .if1 .left)) (w .ensures)) (omega arith) refl refl)
+    PackPromise.short (shown-not (w .result) (w .ensures) (c .before .if1 .left)) (omega arith) refl refl)
     (λ c κs.
     let w = c .before .before .before .well-formed in
-    (omega arith, shown (w .result) (not-false _ (c .before .before .if1 .left)) (w .ensures)))
+    (omega arith, shown-not (w .result) (w .ensures) (c .before .before .if1 .left)))
     (λ c. search needs)
     (λ c.
     let w = c .before .before .before .before .before .before .well-formed in
-    let p = packs (shown (w .result) (not-false _ (c .before .before .before .before .before .if1 .left)) (w .ensures)) in
+    let p = packs (shown-not (w .result) (w .ensures) (c .before .before .before .before .before .if1 .left)) in
     let l = c .before .before .before .before .before .before .before .before .args .out .now in
     PackPromise.done p (omega arith) refl (c .before .before .put-record .ensures ∙ at-start l p (omega arith))))

@@ -3,11 +3,10 @@ use Prim.Native.Nat.{_+_, _*_, _^_}
 use mathlib.Core.Path.{_≡_, refl, sym, _∙_, ap}
 use native.Mathlib.Omega.{arith}
 use borrow.Author.Needs.{needs}
-use borrow.Author.Tests.{not-true, not-false}
 use lib.Seq.{take-all}
 use Rattle.record.specs.Bytes.{bytes}
 use Rattle.record.specs.Promise.{UnpackPromise}
-use Rattle.base.proofs.Tests.{shown, refuted}
+use Rattle.base.proofs.Tests.{shown-not, refuted-not}
 use Rattle.record.proofs.Words.{widths-of, Words, three-words}
 use Rattle.record.proofs.OneRecord.{spare, only}
 use Rattle.record.proofs.unpack.Statement.{statement}
@@ -38,12 +37,12 @@ unpack-spec =
     let r = c .before .before .record-of in
     let g = c .before .before .before .before in
     let b = widths-of (r .ensures .1) in
-    let n = refuted (w .result) (not-true _ (c .if3 .taken)) (w .ensures) in
+    let n = refuted-not (w .result) (w .ensures) (c .if3 .taken) in
     UnpackPromise.malformed (omega arith)
     (λ t p. n (rw (only (words g .below) (words-are g) b (r .ensures .0) p) at (p .formed))) refl)
     (λ c.
     let w = c .before .well-formed in
     let r = c .before .before .record-of in
     let s = words-are (c .before .before .before .before) in
-    let f = shown (w .result) (not-false _ (c .if3 .left)) (w .ensures) in
+    let f = shown-not (w .result) (w .ensures) (c .if3 .left) in
     UnpackPromise.fields (record { formed = f; packed = s ∙ ap (bytes 20) (sym (r .ensures .0)) }) refl))

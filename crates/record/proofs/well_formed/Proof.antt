@@ -3,8 +3,7 @@ use mathlib.Core.Path.{_≡_}
 use mathlib.Core.Logic.{_⊎_, ⊎-elim}
 use native.Mathlib.Omega.{arith}
 use borrow.Author.Needs.{needs}
-use borrow.Author.Tests.{not-true, not-false}
-use Rattle.base.proofs.Tests.{same-test, shown, refuted}
+use Rattle.base.proofs.Tests.{same-test, shown-not, refuted-not}
 use Rattle.record.specs.declared.Record.{Record}
 use Rattle.record.specs.Record.{Warning, ErrorFrame, WellFormed}
 use Rattle.record.proofs.well_formed.Statement.{statement}
@@ -19,7 +18,7 @@ formed : (c : tie.Else9)
     → WellFormed (asked c)
 formed c k =
     let p = c .before .past in
-    let z = shown (p .result) (not-false _ (c .if9 .left)) (p .ensures) in
+    let z = shown-not (p .result) (p .ensures) (c .if9 .left) in
     let s = c .before .before .before .before .if6 .came in
     record {
       offset = omega arith;
@@ -47,7 +46,7 @@ well-formed-spec =
     (λ c w. omega (arith, w .standard (omega arith)))
     (λ c. search needs)
     (λ c κs. search needs)
-    (λ c w. refuted (c .before .past .result) (not-true _ (c .if9 .taken)) (c .before .past .ensures) (w .past))
+    (λ c w. refuted-not (c .before .past .result) (c .before .past .ensures) (c .if9 .taken) (w .past))
     (λ c. formed (c .before .before) (
       ⊎-elim (λ e. absurd (omega arith)) (λ e. absurd (omega arith)),
       λ e. absurd (omega arith),

@@ -4,10 +4,11 @@ use mathlib.Core.Path.{ap}
 use native.Mathlib.Omega.{arith}
 use borrow.Author.Needs.{needs}
 use lib.ListN.{length}
-use Rattle.row_writer.specs.Parts.{spaced}
+use Rattle.base.specs.Spaced.{spaced}
 use Rattle.digits.specs.declared.Letters.the-variants.{Capital}
-use Rattle.row_writer.proofs.Columns.{remote-data, frame-data}
-use Rattle.row_writer.proofs.Bytes.{length-bytes}
+use Rattle.digits.proofs.ByteTexts.{length-bytes}
+use Rattle.row.proofs.Texts.{data-bytes}
+use Rattle.row_writer.proofs.Columns.{remote-data}
 use Rattle.row_writer.proofs.data_length.Statement.{statement}
 use Rattle.row_writer.proofs.data_length.Tie as tie
 
@@ -16,4 +17,4 @@ data-length-spec =
     tie.close (tie.spec
     (λ c. omega (arith, ap length (remote-data (c .before .before .args .r) (c .if1 .taken))))
     (λ c. search needs)
-    (λ c. let r = c .before .before .args .r in omega (arith, ap (λ fs. length (spaced fs)) (frame-data r (c .if1 .left)), length-bytes Capital (256 ^ 7) (r .len) (r .«data»))))
+    (λ c. let r = c .before .before .args .r in omega (arith, ap (λ fs. length (spaced fs)) (data-bytes r (c .if1 .left)), length-bytes Capital (256 ^ 7) (r .len) (r .«data»))))

@@ -5,10 +5,11 @@ use native.Mathlib.Omega.{arith}
 use borrow.Author.Needs.{needs}
 use lib.ListN.{length}
 use Rattle.base.proofs.Lists.{then}
-use Rattle.row_writer.specs.Parts.{spaced}
+use Rattle.base.specs.Spaced.{spaced}
 use Rattle.digits.specs.declared.Letters.the-variants.{Capital}
-use Rattle.row_writer.proofs.Columns.{remote-data, frame-data}
-use Rattle.row_writer.proofs.Bytes.{length-bytes}
+use Rattle.digits.proofs.ByteTexts.{length-bytes}
+use Rattle.row.proofs.Texts.{data-bytes}
+use Rattle.row_writer.proofs.Columns.{remote-data}
 use Rattle.row_writer.proofs.put_data.Statement.{statement}
 use Rattle.row_writer.proofs.put_data.Tie as tie
 
@@ -24,9 +25,9 @@ put-data-spec =
     rw e (then (p .put-byte .ensures) (c .before .before .put-three .ensures)))
     (λ c κs.
     let r = c .before .before .before .before .args .r in
-    omega (arith, ap (λ fs. length (spaced fs)) (frame-data r (c .before .if1 .left)), length-bytes Capital (256 ^ 7) (r .len) (r .«data»)))
+    omega (arith, ap (λ fs. length (spaced fs)) (data-bytes r (c .before .if1 .left)), length-bytes Capital (256 ^ 7) (r .len) (r .«data»)))
     (λ c. search needs)
     (λ c.
     let t = c .before .before .before .before in
-    let e = frame-data (t .before .before .before .args .r) (t .if1 .left) in
+    let e = data-bytes (t .before .before .before .args .r) (t .if1 .left) in
     rw e (c .before .before .put-pairs .ensures Capital (t .before .before .before .pre .1))))

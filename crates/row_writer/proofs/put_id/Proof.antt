@@ -1,13 +1,9 @@
 -- `row_writer::put_id` meets its contract.
-use mathlib.Core.Path.{_≡_, ap}
 use native.Mathlib.Omega.{arith}
 use borrow.Author.Needs.{needs}
-use lib.ListN.{length}
 use Rattle.base.proofs.Lists.{then}
-use Rattle.digits.specs.House.{glyphOf}
-use Rattle.digits.specs.declared.Letters.the-variants.{Capital}
-use Rattle.digits.proofs.House.{length-fixed}
-use Rattle.row_writer.proofs.Columns.{warning-id, extended-id, standard-id}
+use Rattle.row.proofs.Texts.{id-warning, id-frame}
+use Rattle.row_writer.proofs.Columns.{length-warning-id, length-frame-id}
 use Rattle.row_writer.proofs.put_id.Statement.{statement}
 use Rattle.row_writer.proofs.put_id.Tie as tie
 
@@ -15,30 +11,17 @@ pub put-id-spec : {M : Type 1} → statement M
 put-id-spec =
     tie.close (tie.spec
     (λ c κs. search needs)
-    (λ c κs.
-    let r = c .before .before .before .before .before .before .before .before .args .r in
-    omega (arith, ap length (warning-id r (c .before .if1 .taken)), length-fixed (glyphOf Capital) 16 8 0xFFFFFFFF))
+    (λ c κs. omega (arith, length-warning-id (c .before .before .before .before .before .before .before .before .args .r) (c .before .if1 .taken)))
     (λ c. search needs)
     (λ c.
     let p = c .before .before .before .before .before .before .before .before in
-    let e = warning-id (p .before .before .before .args .r) (c .before .before .before .before .if1 .taken) in
+    let e = id-warning (p .before .before .before .args .r) (c .before .before .before .before .if1 .taken) in
     rw e (then (p .put-byte .ensures) (c .before .before .put-hex .ensures .0)))
-    (λ c κs.
-    let r = c .before .before .before .before .before .before .before .before .before .before .args .r in
-    omega (arith, ap length (extended-id r (c .before .before .before .if1 .left) (c .before .if2 .taken)), length-fixed (glyphOf Capital) 16 8 (r .id)))
+    (λ c. search needs)
+    (λ c. search needs)
+    (λ c κs. omega (arith, length-frame-id (c .before .before .before .before .before .before .before .before .args .r) (c .before .if1 .left)))
     (λ c. search needs)
     (λ c.
-    let p = c .before .before .before .before .before .before .before .before .before .before in
-    let e = extended-id (p .before .before .before .args .r) (c .before .before .before .before .before .before .if1 .left) (c .before .before .before .before .if2 .taken) in
-    rw e (then (p .put-byte .ensures) (c .before .before .put-hex2 .ensures .0)))
-    (λ c κs.
-    let r = c .before .before .before .before .before .before .before .before .before .before .args .r in
-    let z : r .extended ≡ 0 = omega arith in
-    omega (arith, ap length (standard-id r (c .before .before .before .if1 .left) z), length-fixed (glyphOf Capital) 16 4 (r .id)))
-    (λ c. search needs)
-    (λ c.
-    let p = c .before .before .before .before .before .before .before .before .before .before in
-    let r = p .before .before .before .args .r in
-    let z : r .extended ≡ 0 = omega arith in
-    let e = standard-id r (c .before .before .before .before .before .before .if1 .left) z in
-    rw e (then (p .put-byte .ensures) (c .before .before .put-hex3 .ensures .0))))
+    let p = c .before .before .before .before .before .before .before .before in
+    let e = id-frame (p .before .before .before .args .r) (c .before .before .before .before .if1 .left) in
+    rw e (then (p .put-byte .ensures) (c .before .before .put-hex2 .ensures .0))))

@@ -2,7 +2,8 @@
 use native.Mathlib.Omega.{arith}
 use borrow.Author.Needs.{needs}
 use Rattle.base.proofs.Lists.{then}
-use Rattle.row_writer.proofs.Columns.{number, length-number}
+use Rattle.row.proofs.Texts.{number-text}
+use Rattle.row_writer.proofs.Columns.{length-number}
 use Rattle.row_writer.proofs.put_number.Statement.{statement}
 use Rattle.row_writer.proofs.put_number.Tie as tie
 
@@ -14,4 +15,4 @@ put-number-spec =
     (a .pre .1, omega (arith, length-number (a .args .k))))
     (λ c κs. omega (arith, length-number (c .before .before .before .before .before .before .args .k)))
     (λ c. search needs)
-    (λ c. rw number (then (c .before .before .before .before .before .before .put-kept .ensures) (c .before .before .put-byte .ensures))))
+    (λ c. rw number-text (then (c .before .before .before .before .before .before .put-kept .ensures) (c .before .before .put-byte .ensures))))

@@ -1,6 +1,6 @@
 -- `trace::body` judges, sees whether there is room, and fills.
-use Prim.Native.Nat.{ℕ, _*_, _/_, _≤_, _<_}
-use mathlib.Core.Path.{_≡_, refl, ap₂}
+use Prim.Native.Nat.{ℕ}
+use mathlib.Core.Path.{refl, ap₂}
 use mathlib.Core.List.{[], _∷_}
 use native.Mathlib.Omega.{arith}
 use borrow.Author.Needs.{needs}

@@ -11,7 +11,7 @@ use Rattle.trace.proofs.fill.Tie as tie
 
 abbrev Inv-loop : tie.InvT-loop
 Inv-loop text from version start out₀ at₀ done₀ o₀ last₀ back₀ w₀ base₀ fields₀ out at done o last back w base fields =
-    Filling text out₀ out version start at o done last back × Windowed text base w × (base ≤ at)
+    Filling 1 text out₀ out version start at o done last back × Windowed text base w × (base ≤ at)
 
 abbrev μ-loop : tie.MeasureT-loop
 μ-loop text from version start out₀ at₀ done₀ o₀ last₀ back₀ w₀ base₀ fields₀ out at done o last back w base fields = length text - at
@@ -39,18 +39,18 @@ fill-spec =
     (λ c. let f = c .before .before .before .before .before .loop .inv .0 .few in omega (arith, c .before .before .before .before .loop-test .taken))
     (λ c κs. (c .before .before .window-at .ensures, omega (arith, c .before .before .before .before .before .before .loop-test .taken)))
     (λ c. out-length (c .before .before .before .before .before .before .before .before .before .loop .inv .0))
-    (λ c. let x = row-next (c .before .before .before .before .before .before .before .before .before .loop .inv .0) (c .before .before .before .before .before .before .before .before .loop-test .taken) (c .before .before .before .before .before .before .if1 .left) in absurd (not-found (c .before .row-at .ensures) (c .if2 .taken) (x .r) (x .line) (x .after) (x .is) (x .row)))
+    (λ c. let x = row-next (c .before .before .before .before .before .before .before .before .before .loop .inv .0) (omega arith) (c .before .before .before .before .before .before .before .before .loop-test .taken) (c .before .before .before .before .before .before .if1 .left) in absurd (not-found (c .before .row-at .ensures) (c .if2 .taken) (x .r) (x .line) (x .after) (x .is) (x .row)))
     (λ c κs. search needs)
     (λ c κs.
     let f = was-found (c .before .before .before .before .row-at .ensures) (c .before .before .before .if2 .left) in
-    let m = row-room (c .before .before .before .before .before .before .before .before .before .before .before .before .loop .inv .0) _ (f .line) (f .there) (f .row) in
+    let m = row-room (c .before .before .before .before .before .before .before .before .before .before .before .before .loop .inv .0) _ (f .line) (omega arith) (f .there) (f .row) in
     (m .0, rw (c .of-fields .ensures) (m .1)))
     (λ c. search needs)
     (λ c κs. search needs)
     (λ c. search needs)
     (λ c.
     let f = was-found (c .before .before .before .before .before .before .before .before .row-at .ensures) (c .before .before .before .before .before .before .before .if2 .left) in
-    let m = row-room (c .before .before .before .before .before .before .before .before .before .before .before .before .before .before .before .before .loop .inv .0) _ (f .line) (f .there) (f .row) .0 in
+    let m = row-room (c .before .before .before .before .before .before .before .before .before .before .before .before .before .before .before .before .loop .inv .0) _ (f .line) (omega arith) (f .there) (f .row) .0 in
     omega (arith, out-length (c .before .before .before .before .before .before .before .before .before .before .before .before .before .before .before .before .loop .inv .0), c .before .before .before .before .before .before .before .before .before .before .before .before .before .before .before .before .before .before .before .before .before .before .good))
     (λ c.
     let f = was-found (c .before .before .before .before .before .before .before .before .row-at .ensures) (c .before .before .before .before .before .before .before .if2 .left) in
@@ -61,6 +61,6 @@ fill-spec =
     let f = was-found (c .before .before .before .before .before .before .before .before .row-at .ensures) (c .before .before .before .before .before .before .before .if2 .left) in
     let w = c .before .before .before .before .before .before .before .before .before .before .before .window-at .ensures in
     let a = f .there .later in
-    (stored-row (c .before .before .before .before .before .before .before .before .before .before .before .before .before .before .before .before .loop .inv .0) _ (f .line) _ (f .there) (f .row) (rw (c .before .before .before .before .of-fields .ensures) at (c .before .before .before .put-record .ensures)) (c .back-after .ensures), w .holds, omega (arith, w .starts)))
+    (stored-row (c .before .before .before .before .before .before .before .before .before .before .before .before .before .before .before .before .loop .inv .0) _ (f .line) _ (omega arith) (f .there) (f .row) (rw (c .before .before .before .before .of-fields .ensures) at (c .before .before .before .put-record .ensures)) (c .back-after .ensures), w .holds, omega (arith, w .starts)))
     (λ c. out-length (c .before .loop .inv .0))
     (λ c. filled (c .before .loop .inv .0) (c .loop-test .left)))

@@ -11,7 +11,7 @@ use Rattle.trace.proofs.judge.Tie as tie
 
 abbrev Inv-loop : tie.InvT-loop
 Inv-loop text from version start at₀ place₀ rows₀ w₀ base₀ fields₀ at place rows w base fields =
-    Judging text version start at place rows × Windowed text base w × (base ≤ at)
+    Judging 1 text version start at place rows × Windowed text base w × (base ≤ at)
 
 abbrev μ-loop : tie.MeasureT-loop
 μ-loop text from version start at₀ place₀ rows₀ w₀ base₀ fields₀ at place rows w base fields = length text - at
@@ -21,8 +21,9 @@ judge-spec =
     tie.close
     (tie.spec Inv-loop μ-loop
     (λ c κs. search needs)
-    (λ c κs. c .before .before .before .pre .0 .within)
-    (λ c. (judging (c .before .before .before .before .pre .0), c .fill-window .ensures, omega arith))
+    (λ c κs. search needs)
+    (λ c κs. c .before .before .before .before .pre .0 .within)
+    (λ c. (rw (c .before .before .before .head-lines .ensures) (judging (c .before .before .before .before .before .pre .0)), c .fill-window .ensures, omega arith))
     (λ c. let j = c .before .loop .inv .0 .near in omega arith)
     (λ c κs. (c .before .before .loop .inv .1, c .before .before .loop .inv .2, c .before .before .loop .inv .0 .within))
     (λ c. let j = c .before .before .before .loop .inv .0 .few in omega arith)
@@ -37,7 +38,7 @@ judge-spec =
     let b = w .starts in
     (noted (c .before .before .before .before .before .before .before .before .before .before .before .loop .inv .0) (s .0) (s .1) (s .2), w .holds, omega arith))
     (λ c. search needs)
-    (λ c. refused-line (c .before .before .before .before .before .before .before .before .before .before .before .loop .inv .0) (c .before .before .before .before .before .before .before .before .before .before .before .before .before .before .before .before .pre .1) (c .before .before .before .before .before .before .before .before .before .before .loop-test .taken) (not-found (c .before .before .before .before .before .row-at .ensures) (c .before .before .before .before .if1 .taken)) (rw (c .before .l2 .given .1) at (c .before .before .before .other-at .ensures)))
+    (λ c. refused-line (c .before .before .before .before .before .before .before .before .before .before .before .loop .inv .0) (omega arith) (c .before .before .before .before .before .before .before .before .before .before .before .before .before .before .before .before .before .pre .1) (c .before .before .before .before .before .before .before .before .before .before .loop-test .taken) (not-found (c .before .before .before .before .before .row-at .ensures) (c .before .before .before .before .if1 .taken)) (rw (c .before .l2 .given .1) at (c .before .before .before .other-at .ensures)))
     (λ c. let j = c .before .before .before .before .before .before .before .loop .inv .0 .few in omega (arith, c .before .before .before .before .before .before .loop-test .taken))
     (λ c. let t = was-found (c .before .row-at .ensures) (c .if1 .left) .there in let a = t .later in let b = t .within in omega arith)
     (λ c.
@@ -45,5 +46,5 @@ judge-spec =
     let w = c .before .before .before .before .window-at .ensures in
     let a = f .there .later in
     let b = w .starts in
-    (counted-row (c .before .before .before .before .before .before .before .loop .inv .0) _ (f .line) (f .there) (f .row), w .holds, omega arith))
+    (counted-row (c .before .before .before .before .before .before .before .loop .inv .0) _ (f .line) (omega arith) (f .there) (f .row), w .holds, omega arith))
     (λ c. finished (c .before .loop .inv .0) (c .loop-test .left)))

@@ -1,7 +1,6 @@
 -- `trace::row_at` takes the row that was read in the window, if it is within the limit and CR and LF stand behind it.
 use native.Mathlib.Omega.{arith}
-use borrow.Author.Needs.{needs}
-use Rattle.trace.proofs.Rows.{lined, feed-near, feed-later, row-here, no-row-here}
+use Rattle.trace.proofs.Rows.{lined, feed-near, row-here, no-row-here}
 use Rattle.trace.proofs.row_at.Statement.{statement}
 use Rattle.trace.proofs.row_at.Tie as tie
 

@@ -10,7 +10,7 @@ use Rattle.trace_writer.proofs.measure.Statement.{statement}
 use Rattle.trace_writer.proofs.measure.Tie as tie
 
 abbrev Inv-loop : tie.InvT-loop
-Inv-loop version s at₀ k₀ size₀ misfit₀ at k size misfit = Measuring version s at k size misfit
+Inv-loop version s at₀ k₀ size₀ misfit₀ at k size misfit = Measuring version 1 s at k size misfit
 
 abbrev μ-loop : tie.MeasureT-loop
 μ-loop version s at₀ k₀ size₀ misfit₀ at k size misfit = length s - at
@@ -23,7 +23,7 @@ pub measure-spec : {M : Type 1} → statement M
 measure-spec =
     tie.close
     (tie.spec Inv-loop μ-loop
-    (λ c. measuring _ _)
+    (λ c. measuring _ _ _)
     (λ c. let m = one-more (c .before .loop .inv .judged) (c .before .before .before .pre) (c .loop-test .taken) .1 in omega arith)
     (λ c κs. let h = one-more (c .before .loop .inv .judged) (c .before .before .before .pre) (c .loop-test .taken) .0 in omega arith)
     (λ c. search needs)
@@ -45,6 +45,6 @@ measure-spec =
     (λ c. let h = room c in omega arith)
     (λ c.
     let p = rw (c .before .before .before .e .given .1) at (c .before .before .before .before .before .record-at .ensures) in
-    measured-more (c .before .before .before .before .before .before .before .loop .inv) (room c) p (c .misfit-after .ensures) (c .before .row-bytes .ensures))
+    measured-more (c .before .before .before .before .before .before .before .loop .inv) (room c) p (c .misfit-after .ensures) (omega arith) (c .before .row-bytes .ensures))
     (λ c. misfit-found (c .before .before .loop .inv) (c .before .loop-test .left) (c .if1 .taken))
     (λ c. measured (c .before .before .loop .inv) (c .before .loop-test .left) (c .if1 .left)))

@@ -15,7 +15,7 @@ use Rattle.trace_writer.proofs.put_rows.Tie as tie
 
 abbrev Inv-loop : tie.InvT-loop
 Inv-loop version s out₀ from at₀ k₀ p₀ pairs last₀ tens₀ seconds₀ t₀ u₀ out at k p last tens seconds t u =
-    Putting version s out₀ out from at k p × Kept (k / 10) tens t × Kept last seconds u
+    Putting version 1 s out₀ out from at k p × Kept (k / 10) tens t × Kept last seconds u
 
 abbrev μ-loop : tie.MeasureT-loop
 μ-loop version s out₀ from at₀ k₀ p₀ pairs last₀ tens₀ seconds₀ t₀ u₀ out at k p last tens seconds t u = length s - at
@@ -36,7 +36,7 @@ put-rows-spec =
     (λ c.
     let x = c .before .before .before .before .put-decimal .ensures in
     let y = c .before .put-decimal2 .ensures in
-    (putting (c .before .before .before .before .before .before .before .before .before .pre), kept-first (omega arith) (omega arith) x, kept-first (omega arith) (omega arith) y))
+    (putting (omega arith) (c .before .before .before .before .before .before .before .before .before .pre), kept-first (omega arith) (omega arith) x, kept-first (omega arith) (omega arith) y))
     (λ c. let n = c .before .loop .inv .0 .few in omega arith)
     (λ c. omega arith)
     (λ c κs.

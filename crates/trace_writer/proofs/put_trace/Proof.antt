@@ -33,8 +33,9 @@ put-trace-spec =
     no-room w (g .1 .bytes) (omega (arith, g .3, trace-length (a .version) (a .start) (g .0), c .before .head-length .ensures .0, c .if1 .taken)) refl refl)
     (λ c κs.
     let g = rw (c .before .before .before .before .m .given .1) at (c .before .before .before .before .before .before .measure .ensures) in
-    let a = c .before .before .before .before .before .before .before .before .before .args in
-    omega (arith, length-append (ended (versionLineText (a .version))) (ended (startLineText (a .start))), c .before .before .head-length .ensures .0, c .before .if1 .left))
+    let s = c .before .before .before .before .before .before .before .before .before in
+    let a = s .args in
+    (s .pre .1, omega (arith, length-append (ended (versionLineText (a .version))) (ended (startLineText (a .start))), c .before .before .head-length .ensures .0, c .before .if1 .left)))
     (λ c κs.
     let g = rw (c .before .before .before .before .before .before .before .before .m .given .1) at (c .before .before .before .before .before .before .before .before .before .before .measure .ensures) in
     let a = c .before .before .before .before .before .before .before .before .before .before .before .before .before .args in
@@ -48,7 +49,7 @@ put-trace-spec =
       records = g .0;
       holds = g .1;
       carried = g .2;
-      few = w .few;
+      few = omega (arith, w .few);
       room = omega (arith, g .3, length-append (ended (versionLineText (a .version))) (ended (startLineText (a .start))), c .before .before .before .before .before .before .before .before .before .before .head-length .ensures .0, c .before .before .before .before .before .before .before .before .before .if1 .left, c .before .before .before .before .before .before .before .put-version-line .ensures .next, c .before .before .before .put-start-line .ensures .next);
     })
     (λ c. search needs)

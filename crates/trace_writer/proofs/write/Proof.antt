@@ -1,11 +1,9 @@
 -- `trace_writer::write` keeps its promise for every version, start, bytes and output.
 use mathlib.Core.Path.{refl}
-use mathlib.Core.Logic.{inl, inr, ⊎-elim}
-use native.Mathlib.Omega.{arith}
 use borrow.Author.Needs.{needs}
 use Rattle.base.proofs.Tests.{shown-not, refuted-not}
 use Rattle.records.specs.Records.{Whole}
-use Rattle.trace.specs.House.{Version}
+use Rattle.row.specs.Versions.{Version}
 use Rattle.trace_writer.specs.Promise.{refused, no-records, no-version, late}
 use Rattle.trace_writer.proofs.write.Statement.{statement}
 use Rattle.trace_writer.proofs.write.Tie as tie
@@ -14,9 +12,9 @@ use Rattle.trace_writer.proofs.write.Tie as tie
 whole : (c : tie.Else1) → Whole (c .before .before .before .before .args .records .now)
 whole c = shown-not (c .before .whole .result) (c .before .whole .ensures) (c .if1 .left)
 
--- and the version is known
-known : (c : tie.Joined2) → Version (c .before .before .before .before .before .args .version)
-known c = ⊎-elim (λ w. inr (w .1 .left)) (λ w. inl (w .left)) (c .if2 .came)
+-- and the version is one
+known : (c : tie.Else2) → Version (c .before .before .before .before .before .before .args .version)
+known c = shown-not (c .before .is-version .result) (c .before .is-version .ensures) (c .if2 .left)
 
 pub write-spec : {M : Type 1} → statement M
 write-spec =
@@ -24,8 +22,9 @@ write-spec =
     (tie.spec
     (λ c κs. tt)
     (λ c. refused (no-records (refuted-not (c .before .whole .result) (c .before .whole .ensures) (c .if1 .taken))) refl refl)
-    (λ c. refused (no-version (whole (c .before .before)) (⊎-elim (λ e. c .before .if2 .taken e) (λ e. c .if3 .taken e))) refl refl)
-    (λ c. refused (late (whole (c .before .before)) (known (c .before)) (c .if4 .taken)) refl refl)
-    (λ c κs. (whole (c .before .before .before), known (c .before .before), c .before .if4 .left))
+    (λ c κs. tt)
+    (λ c. refused (no-version (whole (c .before .before)) (refuted-not (c .before .is-version .result) (c .before .is-version .ensures) (c .if2 .taken))) refl refl)
+    (λ c. refused (late (whole (c .before .before .before)) (known (c .before)) (c .if3 .taken)) refl refl)
+    (λ c κs. (whole (c .before .before .before .before), known (c .before .before), c .before .if3 .left))
     (λ c. search needs)
     (λ c. c .before .before .put-trace .ensures))
