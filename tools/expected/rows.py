@@ -37,21 +37,21 @@ def row(version, k, line):
         if bus is None or not 1 <= bus <= 16: return None
         rest = rest[1:]
     if len(rest) < 3: return None
-    mark, ident, length, data = rest[0], rest[1], rest[2], rest[3:]
+    column, ident, length, data = rest[0], rest[1], rest[2], rest[3:]
     if not re.fullmatch(rb'[0-9A-Fa-f]+', ident) or not re.fullmatch(rb'[0-8]', length): return None
     value, wide, length = int(ident, 16), len(ident), int(length)
-    if mark in (b'Rx', b'Tx'):
+    if column in (b'Rx', b'Tx'):
         if (wide, value <= (0x7FF if wide == 4 else 0x1FFFFFFF)) not in ((4, True), (8, True)): return None
-        kind = 0 if mark == b'Rx' else 1
+        kind = 0 if column == b'Rx' else 1
         if data == [b'RTR']: return offset, bus, kind + 2, wide // 8, value, length, 0
         got = data_bytes(data, length)
         return None if got is None else (offset, bus, kind, wide // 8, value, length, int.from_bytes(got, 'big'))
-    if mark == b'Warng':
+    if column == b'Warng':
         got = data_bytes(data[:4], 4)
         words = all(re.fullmatch(rb'[A-Z]+', w) for w in data[4:])
         if wide != 8 or value != 0xFFFFFFFF or length != 4 or got is None or not words: return None
         return offset, bus, 4, 0, 0, 4, int.from_bytes(got, 'big')
-    if mark == b'Error':
+    if column == b'Error':
         got = data_bytes(data, 4)
         positions = set(range(2, 16)) | {17, 18, 19} | set(range(23, 29))
         if wide != 4 or value not in (1, 2, 4, 8) or length != 4 or got is None or got[0] > 1 or got[1] not in positions: return None

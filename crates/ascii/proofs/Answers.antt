@@ -6,15 +6,15 @@ use mathlib.Core.List.{List, _++_}
 use native.Mathlib.Omega.{arith}
 use lib.ListN.{length, drop}
 use Rattle.record.specs.declared.Record.{Record}
-use Rattle.records.specs.Records.{Holds}
-use Rattle.records.proofs.Records.{holds-one, malformed-one, none-malformed}
+use Rattle.records.specs.Records.{PacksAll}
+use Rattle.records.proofs.Records.{packs-all-one, malformed-one, none-malformed}
 use Rattle.ascii.specs.declared.Exported.{Exported}
 use Rattle.ascii.specs.declared.Exported.the-variants as exported
-use Rattle.ascii.specs.Promise.{exportNumbers, Numbered, is-done, is-refused, lineCount, leftCount, Stopped, no-records, late, malformed, Given, ExportPromise, refused, no-room, done}
+use Rattle.ascii.specs.Promise.{exportNumbers, Numbered, is-done, is-refused, lineCount, leftCount, ExportStopped, no-records, late, malformed, Given, ExportPromise, refused, no-room, done}
 use Rattle.ascii.proofs.Exporting.{exports-one}
 
 -- Refusals 20, 22 and 23 have one number at one place.
-pub stopped-one : {start a b p q : ℕ} {s : List ℕ} → Stopped start s a p → Stopped start s b q → (a ≡ b) × (p ≡ q)
+pub stopped-one : {start a b p q : ℕ} {s : List ℕ} → ExportStopped start s a p → ExportStopped start s b q → (a ≡ b) × (p ≡ q)
 stopped-one (no-records f) (no-records g) = (refl, refl)
 stopped-one (no-records f) (late w l) = absurd (f w)
 stopped-one (no-records f) (malformed w l g) = absurd (f w)
@@ -25,21 +25,21 @@ stopped-one (malformed v k f) (no-records g) = absurd (g v)
 stopped-one (malformed v k f) (late w l) = absurd (omega arith)
 stopped-one (malformed v k f) (malformed w l g) = (refl, malformed-one f g)
 
-stopped-number : {start n p : ℕ} {s : List ℕ} → Stopped start s n p → 20 ≤ n
+stopped-number : {start n p : ℕ} {s : List ℕ} → ExportStopped start s n p → 20 ≤ n
 stopped-number (no-records f) = omega arith
 stopped-number (late w l) = omega arith
 stopped-number (malformed w l f) = omega arith
 
 -- What is given is none of them,
-not-stopped : {start n p : ℕ} {s text : List ℕ} {rs : List Record} → Given start s rs text → Stopped start s n p → ⊥
+not-stopped : {start n p : ℕ} {s text : List ℕ} {rs : List Record} → Given start s rs text → ExportStopped start s n p → ⊥
 not-stopped g (no-records f) = f (g .whole)
 not-stopped g (late w l) = omega (arith, g .limit)
-not-stopped g (malformed w l f) = none-malformed (g .holds) f
+not-stopped g (malformed w l f) = none-malformed (g .packs) f
 
 -- and is the only one.
 given-one : {start : ℕ} {s t u : List ℕ} {rs qs : List Record} → Given start s rs t → Given start s qs u → (rs ≡ qs) × (t ≡ u)
 given-one g h =
-    let e = holds-one (g .holds) (h .holds) in
+    let e = packs-all-one (g .packs) (h .packs) in
     (e, exports-one (rw e at (g .exports)) (h .exports))
 
 -- The promise leaves one answer and one output only.
@@ -82,7 +82,7 @@ untouched {number = number} f (done g l e q) = let z : number ≡ 0 = cc in absu
 
 -- Each record is counted once: invented counts break the promise.
 pub counted : {start bytes lines others : ℕ} {s before x : List ℕ} → ExportPromise start s before (exportNumbers (exported.Done bytes lines others)) x
-    → (rs : List Record) × Holds rs s × (lines ≡ lineCount rs) × (others ≡ leftCount rs)
+    → (rs : List Record) × PacksAll rs s × (lines ≡ lineCount rs) × (others ≡ leftCount rs)
 counted (refused {n = n} g e q) = let z : 0 ≡ n = cc in absurd (omega (arith, stopped-number g))
 counted (no-room g l e q) = let z : _≡_ {A = ℕ} 0 25 = cc in absurd (omega arith)
-counted (done {rs = rs} g l e q) = (rs, g .holds, cc, cc)
+counted (done {rs = rs} g l e q) = (rs, g .packs, cc, cc)

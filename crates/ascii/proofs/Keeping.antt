@@ -8,9 +8,9 @@ use Rattle.base.proofs.Numbers.{parts}
 use Rattle.clock.specs.declared.DateTime.{DateTime}
 use Rattle.clock.specs.Stamp.{Stamp, ticks}
 use Rattle.clock.proofs.Dates.{one-date}
-use Rattle.ascii_line.specs.Parts.{secondText, Begins}
+use Rattle.ascii_line.specs.inner.Parts.{secondText, StampParts}
 use Rattle.ascii_line.proofs.Texts.{same-second}
-use Rattle.ascii.specs.Passes.{ticksOf, Shows}
+use Rattle.ascii.specs.inner.Passes.{ticksOf, Shows}
 
 -- The ticks of a stamp are those of its start and offset.
 stamp-ticks : {start offset : ℕ} {s : DateTime} → Stamp start offset s → ticksOf start offset ≡ ticks (s .time)
@@ -50,7 +50,7 @@ module _ {start offset : ℕ} {s : DateTime} (y : Stamp start offset s) where
   }
 
   -- What shows the second of a stamp is its bytes, and what is left of its ticks its part.
-  pub begins : {head : List ℕ} {n : ℕ} → n ≡ ticksOf start offset → Shows head (n / 10000) → Begins head (n % 10000) s
+  pub begins : {head : List ℕ} {n : ℕ} → n ≡ ticksOf start offset → Shows head (n / 10000) → StampParts head (n % 10000) s
   begins e h = record {
     bytes = h .stamps y (ap (λ (t : ℕ). t / 10000) (e ∙ stamp-ticks y));
     rest = ap (λ (t : ℕ). t % 10000) (e ∙ stamp-ticks y) ∙ whole y .1;

@@ -10,7 +10,7 @@ use Rattle.record.specs.Record.{Packs}
 use Rattle.records.proofs.Through.{Through, through, through-more, all-through}
 use Rattle.ascii.specs.declared.Measured.the-variants as answer
 use Rattle.ascii.specs.Promise.{lineOf, none, isFrame, lineCount}
-use Rattle.ascii.specs.Passes.{LineBytes, line, left, Sized, Measures}
+use Rattle.ascii.specs.inner.Passes.{LineBytes, line, left, Sized, MeasuresLines}
 use Rattle.ascii.proofs.Exporting.{exports-append, exports-line, exports-left, count-none, count-snoc, counts-sum}
 
 pub record Measuring (s : List ℕ) (at k bytes lines : ℕ) : Type 0 where
@@ -50,7 +50,7 @@ module _ {s : List ℕ} {at k bytes lines : ℕ} (m : Measuring s at k bytes lin
       counted = omega (arith, m .counted, g .0, count-snoc (m .judged .records) r);
     }
 
-  pub measured : length s ≤ at → Measures s (answer.Good bytes lines (k - lines))
+  pub measured : length s ≤ at → MeasuresLines s (answer.Good bytes lines (k - lines))
   measured h =
       let rs = m .judged .records in
       (rs, all-through (m .judged) h, m .sized, m .counted, omega (arith, m .counted, m .judged .counted, counts-sum rs))

@@ -4,7 +4,7 @@ use mathlib.Core.Path.{_≡_, refl, ap}
 use mathlib.Core.List.{List, [], _∷_, _++_, append-nil}
 use native.Mathlib.Omega.{arith}
 use lib.ListN.{length, take, drop, length-append}
-use Rattle.base.specs.Wrote.{Wrote}
+use Rattle.base.specs.inner.Wrote.{Wrote}
 use Rattle.base.proofs.Lists.{then}
 use Rattle.clock.specs.declared.DateTime.{DateTime}
 use Rattle.clock.specs.Stamp.{Stamp}
@@ -12,7 +12,7 @@ use Rattle.record.specs.declared.Record.{Record}
 use Rattle.record.specs.Record.{Packs}
 use Rattle.records.proofs.Ahead.{Ahead, ahead, later, after-next, ahead-more, all-behind}
 use Rattle.ascii.specs.Promise.{lineOf, Exports, none}
-use Rattle.ascii.specs.Passes.{LinePut, line, left, Fits, LinesPut}
+use Rattle.ascii.specs.inner.Passes.{LinePut, line, left, LinesFit, LinesPut}
 use Rattle.ascii.proofs.Exporting.{exports-one, exports-append, exports-line, exports-left, first-line, first-left}
 
 pub record Putting (start : ℕ) (s old out : List ℕ) (at p : ℕ) : Type 0 where
@@ -25,9 +25,9 @@ pub record Putting (start : ℕ) (s old out : List ℕ) (at p : ℕ) : Type 0 wh
   pub room : p + length text ≤ length old
   pub same : length out ≡ length old
 
-pub putting : {start : ℕ} {s old : List ℕ} → Fits start s old → Putting start s old old 0 0
+pub putting : {start : ℕ} {s old : List ℕ} → LinesFit start s old → Putting start s old old 0 0
 putting f = record {
-  records = ahead (f .holds);
+  records = ahead (f .packs);
   done = [];
   so-far = none;
   wrote = record { next = refl; stored = refl };

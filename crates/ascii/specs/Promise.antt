@@ -9,7 +9,7 @@ use Rattle.clock.specs.declared.DateTime.{DateTime}
 use Rattle.clock.specs.Start.{startLimit}
 use Rattle.clock.specs.Stamp.{Stamp}
 use Rattle.record.specs.declared.Record.{Record}
-use Rattle.records.specs.Records.{Whole, Holds, FirstMalformed}
+use Rattle.records.specs.Records.{Whole, PacksAll, FirstMalformed}
 use Rattle.ascii_line.specs.Line.{lineText}
 use Rattle.ascii.specs.declared.Exported.{Exported}
 use Rattle.ascii.specs.declared.Exported.the-variants as exported
@@ -53,22 +53,22 @@ leftCount [] = 0
 leftCount (r ∷ rs) = 1 - isFrame r + leftCount rs
 
 -- What is refused whatever the output, with which number at which place. In the table's order: each says that those before it do not hold.
-pub data Stopped (start : ℕ) (s : List ℕ) : ℕ → ℕ → Type 0 where
-  no-records : (Whole s → ⊥) → Stopped start s 20 0
-  late : Whole s → startLimit < start → Stopped start s 22 0
-  malformed : {place : ℕ} → Whole s → start ≤ startLimit → FirstMalformed s place → Stopped start s 23 place
+pub data ExportStopped (start : ℕ) (s : List ℕ) : ℕ → ℕ → Type 0 where
+  no-records : (Whole s → ⊥) → ExportStopped start s 20 0
+  late : Whole s → startLimit < start → ExportStopped start s 22 0
+  malformed : {place : ℕ} → Whole s → start ≤ startLimit → FirstMalformed s place → ExportStopped start s 23 place
 
 -- The bytes are these records, which export to this text.
 pub record Given (start : ℕ) (s : List ℕ) (rs : List Record) (text : List ℕ) : Type 0 where
   pub whole : Whole s
   pub limit : start ≤ startLimit
-  pub holds : Holds rs s
+  pub packs : PacksAll rs s
   pub exports : Exports start rs text
 
 -- `export` of a start and the bytes s, into an output that held `before` and then holds `after`, gives the numbers a.
 pub data ExportPromise (start : ℕ) (s before a after : List ℕ) : Type 0 where
   -- 20, 22 or 23
-  refused : {n p : ℕ} → Stopped start s n p → a ≡ exportNumbers (exported.Refused n p) → after ≡ before → ExportPromise start s before a after
+  refused : {n p : ℕ} → ExportStopped start s n p → a ≡ exportNumbers (exported.Refused n p) → after ≡ before → ExportPromise start s before a after
   -- everything good, and the output too short
   no-room : {rs : List Record} {text : List ℕ} → Given start s rs text → length before < length text
       → a ≡ exportNumbers (exported.Refused 25 0) → after ≡ before → ExportPromise start s before a after

@@ -14,15 +14,15 @@ use records::whole;
 ghost use mathlib.Core.Path.{_≡_};
 ghost use Prim.Native.Nat.{_+_, _/_, _≤_, _<_, _^_};
 ghost use lib.ListN.{length};
+ghost use Rattle.digits.specs.inner.Pairs.{PairsOf};
 ghost use Rattle.clock.specs.Start.{startLimit};
 ghost use Rattle.clock.specs.declared.DateTime.{DateTime as AnyStamp};
-ghost use Rattle.digits.specs.House.{PairsOf};
 ghost use Rattle.digits.specs.declared.Letters.the-variants.{Small};
 ghost use Rattle.record.specs.Record.{WellFormed};
 ghost use Rattle.records.specs.Records.{Whole};
-ghost use Rattle.ascii_line.specs.Parts.{Begins};
+ghost use Rattle.ascii_line.specs.inner.Parts.{StampParts};
 ghost use Rattle.ascii.specs.Promise.{channelOf, lineOf, isFrame, exportNumbers, Numbered, ExportPromise};
-ghost use Rattle.ascii.specs.Passes.{ticksOf, Shows, LineBytes, LinePut, Measures, Fits, LinesPut};
+ghost use Rattle.ascii.specs.inner.Passes.{ticksOf, Shows, LineBytes, LinePut, MeasuresLines, LinesFit, LinesPut};
 
 // The answer of `export`.
 pub enum Exported {
@@ -81,9 +81,9 @@ fn line_bytes(r: Record) -> usize
 }
 
 // The first pass: every record is judged, and the lines are measured and counted.
-fn measure(records: &[u8]) -> Measured
+fn measure_lines(records: &[u8]) -> Measured
     requires { ⌜ Whole (now records) ⌝ }
-    ensures { λ m. ⌜ Measures (now (records .entry)) m ⌝ }
+    ensures { λ m. ⌜ MeasuresLines (now (records .entry)) m ⌝ }
 {
     let mut at: usize = 0;
     let mut k: u64 = 0;
@@ -124,7 +124,7 @@ fn show(head: &mut [u8; 20], start: u64, offset: u64)
 }
 
 // The same, unless those that stand there are of the same second.
-fn renew(head: &mut [u8; 20], last: u64, second: u64, start: u64, offset: u64)
+fn renew_second(head: &mut [u8; 20], last: u64, second: u64, start: u64, offset: u64)
     requires { ⌜ Shows (now head) last × (start ≤ startLimit) × (offset < 2 ^ 48) × (second ≡ ticksOf start offset / 10000) ⌝ }
     ensures { λ _. ⌜ Shows (now (head .exit)) second ⌝ }
 {
@@ -143,7 +143,7 @@ fn put_export(
     pairs: &[u8; 512],
 ) -> usize
     requires { ⌜ WellFormed r × ((s : AnyStamp) × (r .kind ≤ 1 → at + length (lineOf s r) ≤ length (now out))) × PairsOf Small (now pairs) ⌝ }
-    ensures { λ e. ⌜ ((s : AnyStamp) → Begins (now (second .entry)) part s → LinePut (now (out .entry)) (now (out .exit)) at e s r) ⌝ }
+    ensures { λ e. ⌜ ((s : AnyStamp) → StampParts (now (second .entry)) part s → LinePut (now (out .entry)) (now (out .exit)) at e s r) ⌝ }
 {
     let given = frame(r);
     if given == 0 {
@@ -155,7 +155,7 @@ fn put_export(
 // The second pass: the lines are put into the output, which has room for them. No record is judged any more. The bytes of a
 // stamp up to its point are kept in `head` from line to line: `last` is their second.
 fn put_lines(start: u64, records: &[u8], out: &mut [u8])
-    requires { ⌜ Fits start (now records) (now out) × (start ≤ startLimit) ⌝ }
+    requires { ⌜ LinesFit start (now records) (now out) × (start ≤ startLimit) ⌝ }
     ensures { λ _. ⌜ LinesPut start (now (records .entry)) (now (out .entry)) (now (out .exit)) ⌝ }
 {
     let mut at = 0;
@@ -168,7 +168,7 @@ fn put_lines(start: u64, records: &[u8], out: &mut [u8])
         let r = packed_at(records, at);
         let ticks = ticks_of(start, r.offset);
         let second = ticks / 10000;
-        renew(&mut head, last, second, start, r.offset);
+        renew_second(&mut head, last, second, start, r.offset);
         last = second;
         p = put_export(out, p, &head, ticks % 10000, r, &pairs);
         at += 20;
@@ -181,7 +181,7 @@ fn put_all(start: u64, records: &[u8], out: &mut [u8]) -> Exported
     ensures { λ e. ⌜ ExportPromise start (now (records .entry)) (now (out .entry)) (exportNumbers e) (now (out .exit)) ⌝ }
     ensures { λ e. ⌜ Numbered e ⌝ }
 {
-    let m = measure(records);
+    let m = measure_lines(records);
     match m {
         Measured::Good {
             bytes,

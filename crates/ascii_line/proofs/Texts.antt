@@ -7,7 +7,7 @@ use native.Mathlib.Omega.{arith}
 use borrow.Author.Tests.{eq-eqb, ne-eqb}
 use lib.ListN.{length, length-append, drop-of-length-le}
 use Rattle.base.specs.Spaced.{spaced}
-use Rattle.base.specs.Wrote.{Wrote}
+use Rattle.base.specs.inner.Wrote.{Wrote}
 use Rattle.base.proofs.Lists.{at-start}
 use Rattle.base.proofs.Spaced.{spaced-none, spaced-more, spaced-append}
 use Rattle.digits.specs.declared.Letters.the-variants.{Small}
@@ -18,8 +18,8 @@ use Rattle.clock.specs.declared.CalendarDay.{CalendarDay}
 use Rattle.clock.specs.declared.DayTime.{DayTime}
 use Rattle.clock.specs.declared.DateTime.{DateTime}
 use Rattle.record.specs.declared.Record.{Record}
-use Rattle.ascii_line.specs.Line.{dateText, timeText, stampText, typeText, extendedTexts, directionText, idText, partTexts, lineText}
-use Rattle.ascii_line.specs.Parts.{twoText, clockText, secondText, sourceText, barText, wayText, dataText, restText, frameText}
+use Rattle.ascii_line.specs.Line.{dateText, timeText, stampText, messageTypeText, extendedTexts, directionText, idDigits, partTexts, lineText}
+use Rattle.ascii_line.specs.inner.Parts.{twoText, clockText, secondText, sourceText, barText, wayText, dataText, restText, frameText}
 
 pub date : (d : CalendarDay) → dateText d ≡ twoText (d .day) (d .month) 46 ++ paddedText 4 (d .year)
 unfolding dateText
@@ -48,11 +48,11 @@ pub same-second : (s u : DateTime) → s .date ≡ u .date → s .time .hour ≡
 same-second s u d h m e = rw (second s, second u, clock (s .time), clock (u .time), d, h, m, e)
 
 pub extended-source : (x : ℕ) → x ≡ 1 → sourceText x ≡ 32 ∷ 67 ∷ 65 ∷ 78 ∷ 69 ∷ 120 ∷ 116 ∷ 32 ∷ 35 ∷ []
-unfolding typeText
+unfolding messageTypeText
 extended-source x e = rw (eq-eqb x 1 e)
 
 pub standard-source : (x : ℕ) → (x ≡ 1 → ⊥) → sourceText x ≡ 32 ∷ 67 ∷ 65 ∷ 78 ∷ 32 ∷ 35 ∷ []
-unfolding typeText
+unfolding messageTypeText
 standard-source x f = rw (ne-eqb x 1 f)
 
 pub extended-bar : (x : ℕ) → x ≡ 1 → barText x ≡ 32 ∷ 124 ∷ 32 ∷ 69 ∷ 88 ∷ 84 ∷ 69 ∷ 78 ∷ 68 ∷ 69 ∷ 68 ∷ 32 ∷ []
@@ -79,8 +79,8 @@ way-cut x kind =
 pub way : (x kind : ℕ) → kind ≤ 1 → wayText x kind ≡ barText x ++ ((82 + 2 * kind) ∷ 120 ∷ [])
 way x kind k = rw (way-cut, direction kind k)
 
-pub id : (r : Record) → idText r ≡ hexText Small (3 + 5 * r .extended) (r .id)
-unfolding idText
+pub id : (r : Record) → idDigits r ≡ hexText Small (3 + 5 * r .extended) (r .id)
+unfolding idDigits
 id r = refl
 
 -- The line is what is written.
@@ -90,7 +90,7 @@ way-more x kind fs =
     let e : extendedTexts x ++ (directionText kind ∷ fs) ≡ (extendedTexts x ++ (directionText kind ∷ [])) ++ fs = rw append-assoc in
     ap (λ (gs : List (List ℕ)). spaced ((124 ∷ []) ∷ gs)) e ∙ spaced-append ((124 ∷ []) ∷ (extendedTexts x ++ (directionText kind ∷ []))) fs
 
-data-more : (r : Record) → spaced (idText r ∷ ((48 + r .len) ∷ []) ∷ byteTexts Small (256 ^ 7) (r .len) (r .«data»)) ≡ (32 ∷ idText r) ++ dataText r
+data-more : (r : Record) → spaced (idDigits r ∷ ((48 + r .len) ∷ []) ∷ byteTexts Small (256 ^ 7) (r .len) (r .«data»)) ≡ (32 ∷ idDigits r) ++ dataText r
 data-more r = rw (spaced-more, spaced-more)
 
 regroup : (t h n w i d e : List ℕ) → (t ++ ((h ++ n) ++ (w ++ (i ++ d)))) ++ e ≡ (t ++ h) ++ (n ++ (w ++ (i ++ (d ++ e))))
@@ -99,7 +99,7 @@ regroup t h n w i d e = simp append-assoc
 frame-cut : (n : ℕ) (r : Record) → spaced (partTexts n r) ++ (13 ∷ 10 ∷ []) ≡ frameText n r
 frame-cut n r =
     rw (spaced-more, spaced-more, way-more, data-more)
-    (regroup (32 ∷ typeText (r .extended)) (32 ∷ 35 ∷ []) (decimalText n) (wayText (r .extended) (r .kind)) (32 ∷ idText r) (dataText r) (13 ∷ 10 ∷ []))
+    (regroup (32 ∷ messageTypeText (r .extended)) (32 ∷ 35 ∷ []) (decimalText n) (wayText (r .extended) (r .kind)) (32 ∷ idDigits r) (dataText r) (13 ∷ 10 ∷ []))
 
 pub line-cut : (s : DateTime) (n : ℕ) (r : Record) → lineText s n r ≡ secondText s ++ (paddedText 4 (s .time .part) ++ frameText n r)
 unfolding lineText
@@ -130,7 +130,7 @@ length-direction kind = elim (ℕ-discrete kind 0) [ yes e ↦ rw (eq-eqb kind 0
 pub length-way : (x kind : ℕ) → length (wayText x kind) ≡ length (barText x) + 2
 length-way x kind = rw (way-cut, length-append, length-direction)
 
-pub length-id : (r : Record) → length (idText r) ≡ 3 + 5 * r .extended
+pub length-id : (r : Record) → length (idDigits r) ≡ 3 + 5 * r .extended
 length-id r = rw (id, length-fixed)
 
 pub length-data : (r : Record) → length (dataText r) ≡ 2 + 3 * r .len
@@ -140,11 +140,11 @@ pub line-length : (s : DateTime) (n : ℕ) (r : Record) → length (lineText s n
 line-length s n r =
     rw (line-cut, length-append, length-append, length-second, length-fixed) (omega arith)
 
-pub rest-length : (r : Record) → length (restText r) ≡ length (32 ∷ idText r) + length (dataText r) + 2
+pub rest-length : (r : Record) → length (restText r) ≡ length (32 ∷ idDigits r) + length (dataText r) + 2
 rest-length r = simp length-append (omega arith)
 
 pub frame-length : (n : ℕ) (r : Record)
-    → length (frameText n r) ≡ length (sourceText (r .extended)) + length (decimalText n) + length (wayText (r .extended) (r .kind)) + length (32 ∷ idText r) + length (dataText r) + 2
+    → length (frameText n r) ≡ length (sourceText (r .extended)) + length (decimalText n) + length (wayText (r .extended) (r .kind)) + length (32 ∷ idDigits r) + length (dataText r) + 2
 frame-length n r = simp length-append (omega arith)
 
 pub extended-length : (n : ℕ) (r : Record) → r .extended ≡ 1 → length (frameText n r) ≡ length (decimalText n) + 3 * r .len + 36

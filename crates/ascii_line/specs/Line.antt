@@ -11,7 +11,7 @@ use Rattle.clock.specs.declared.CalendarDay.{CalendarDay}
 use Rattle.clock.specs.declared.DayTime.{DayTime}
 use Rattle.clock.specs.declared.DateTime.{DateTime}
 use Rattle.record.specs.declared.Record.{Record}
-use Rattle.fields.specs.Columns.{markRx, markTx}
+use Rattle.fields.specs.Columns.{typeRx, typeTx}
 
 -- `dd.mm.yyyy`
 unfoldable pub dateText : CalendarDay → List ℕ
@@ -25,8 +25,8 @@ abbrev pub stampText : DateTime → List ℕ
 stampText s = dateText (s .date) ++ (blank ∷ timeText (s .time))
 
 -- `CAN`, and `CANExt` for an extended ID.
-unfoldable pub typeText : ℕ → List ℕ
-typeText extended = cond (eqb extended 1) (text "CANExt") (text "CAN")
+unfoldable pub messageTypeText : ℕ → List ℕ
+messageTypeText extended = cond (eqb extended 1) (text "CANExt") (text "CAN")
 
 -- `#` and the channel.
 abbrev pub channelText : ℕ → List ℕ
@@ -38,17 +38,17 @@ extendedTexts extended = cond (eqb extended 1) (text "EXTENDED" ∷ []) []
 
 -- `Rx` for received, `Tx` for sent.
 unfoldable pub directionText : ℕ → List ℕ
-directionText kind = cond (eqb kind 0) markRx markTx
+directionText kind = cond (eqb kind 0) typeRx typeTx
 
 -- Eight digits of an extended ID, three of a standard one.
-unfoldable pub idText : Record → List ℕ
-idText r = hexText Small (3 + 5 * r .extended) (r .id)
+unfoldable pub idDigits : Record → List ℕ
+idDigits r = hexText Small (3 + 5 * r .extended) (r .id)
 
 -- What stands behind the stamp.
 abbrev pub partTexts : ℕ → Record → List (List ℕ)
 partTexts channel r =
-    typeText (r .extended) ∷ channelText channel ∷ text "|"
-    ∷ (extendedTexts (r .extended) ++ (directionText (r .kind) ∷ idText r ∷ (figureOf (r .len) ∷ []) ∷ byteTexts Small (256 ^ 7) (r .len) (r .«data»)))
+    messageTypeText (r .extended) ∷ channelText channel ∷ text "|"
+    ∷ (extendedTexts (r .extended) ++ (directionText (r .kind) ∷ idDigits r ∷ (figureOf (r .len) ∷ []) ∷ byteTexts Small (256 ^ 7) (r .len) (r .«data»)))
 
 unfoldable pub lineText : DateTime → ℕ → Record → List ℕ
 lineText s channel r = stampText s ++ (spaced (partTexts channel r) ++ (cr ∷ lf ∷ []))

@@ -16,13 +16,13 @@ ghost use mathlib.Core.Path.{_≡_};
 ghost use mathlib.Core.List.{_∷_};
 ghost use Prim.Native.Nat.{_+_, _≤_};
 ghost use lib.ListN.{length};
+ghost use Rattle.digits.specs.inner.Pairs.{PairsOf};
 ghost use Rattle.base.specs.Text.{blank};
-ghost use Rattle.base.specs.Wrote.{Wrote};
-ghost use Rattle.digits.specs.House.{PairsOf};
+ghost use Rattle.base.specs.inner.Wrote.{Wrote};
 ghost use Rattle.digits.specs.declared.Letters.the-variants.{Small};
 ghost use Rattle.clock.specs.declared.DateTime.{DateTime as AnyStamp};
-ghost use Rattle.ascii_line.specs.Line.{dateText, idText, lineText};
-ghost use Rattle.ascii_line.specs.Parts.{twoText, clockText, secondText, Begins, sourceText, barText, wayText, dataText, restText, frameText};
+ghost use Rattle.ascii_line.specs.Line.{dateText, idDigits, lineText};
+ghost use Rattle.ascii_line.specs.inner.Parts.{twoText, clockText, secondText, StampParts, sourceText, barText, wayText, dataText, restText, frameText};
 
 // Two numbers of two digits, with this byte behind each.
 fn put_two(out: &mut [u8], at: usize, m: u64, n: u64, b: u8) -> usize
@@ -103,16 +103,16 @@ fn put_way(out: &mut [u8], at: usize, extended: u64, kind: u64) -> usize
 }
 
 // Eight digits of an extended ID, three of a standard one.
-fn put_id(out: &mut [u8], at: usize, r: Record) -> usize
-    requires { ⌜ (r .extended ≤ 1) × (at + length (blank ∷ idText r) ≤ length (now out)) ⌝ }
-    ensures { λ e. ⌜ Wrote (now (out .entry)) (now (out .exit)) at e (blank ∷ idText r) ⌝ }
+fn put_line_id(out: &mut [u8], at: usize, r: Record) -> usize
+    requires { ⌜ (r .extended ≤ 1) × (at + length (blank ∷ idDigits r) ≤ length (now out)) ⌝ }
+    ensures { λ e. ⌜ Wrote (now (out .entry)) (now (out .exit)) at e (blank ∷ idDigits r) ⌝ }
 {
     let p = put_byte(out, at, b' ');
     put_hex(out, p, 3 + 5 * r.extended as usize, r.id, Letters::Small)
 }
 
 // Length and bytes.
-fn put_data(out: &mut [u8], at: usize, r: Record, pairs: &[u8; 512]) -> usize
+fn put_line_data(out: &mut [u8], at: usize, r: Record, pairs: &[u8; 512]) -> usize
     requires { ⌜ (r .len ≤ 8) × (at + length (dataText r) ≤ length (now out)) × PairsOf Small (now pairs) ⌝ }
     ensures { λ e. ⌜ Wrote (now (out .entry)) (now (out .exit)) at e (dataText r) ⌝ }
 {
@@ -126,13 +126,13 @@ fn put_rest(out: &mut [u8], at: usize, r: Record, pairs: &[u8; 512]) -> usize
     requires { ⌜ (r .extended ≤ 1) × (r .len ≤ 8) × (at + length (restText r) ≤ length (now out)) × PairsOf Small (now pairs) ⌝ }
     ensures { λ e. ⌜ Wrote (now (out .entry)) (now (out .exit)) at e (restText r) ⌝ }
 {
-    let p = put_id(out, at, r);
-    let q = put_data(out, p, r, pairs);
+    let p = put_line_id(out, at, r);
+    let q = put_line_data(out, p, r, pairs);
     put_end(out, q)
 }
 
 // What stands behind the stamp, and CR LF.
-fn put_frame(out: &mut [u8], at: usize, channel: u64, r: Record, pairs: &[u8; 512]) -> usize
+fn put_line_frame(out: &mut [u8], at: usize, channel: u64, r: Record, pairs: &[u8; 512]) -> usize
     requires { ⌜ (r .extended ≤ 1) × (r .kind ≤ 1) × (r .len ≤ 8) × (at + length (frameText channel r) ≤ length (now out)) × PairsOf Small (now pairs) ⌝ }
     ensures { λ e. ⌜ Wrote (now (out .entry)) (now (out .exit)) at e (frameText channel r) ⌝ }
 {
@@ -173,9 +173,9 @@ pub fn put_line(
     pairs: &[u8; 512],
 ) -> usize
     requires { ⌜ (r .extended ≤ 1) × (r .kind ≤ 1) × (r .len ≤ 8) × ((s : AnyStamp) × (at + length (lineText s channel r) ≤ length (now out))) × PairsOf Small (now pairs) ⌝ }
-    ensures { λ e. ⌜ ((s : AnyStamp) → Begins (now (second .entry)) part s → Wrote (now (out .entry)) (now (out .exit)) at e (lineText s channel r)) ⌝ }
+    ensures { λ e. ⌜ ((s : AnyStamp) → StampParts (now (second .entry)) part s → Wrote (now (out .entry)) (now (out .exit)) at e (lineText s channel r)) ⌝ }
 {
     let p = put_text(out, at, second);
     let q = put_padded(out, p, 4, part);
-    put_frame(out, q, channel, r, pairs)
+    put_line_frame(out, q, channel, r, pairs)
 }

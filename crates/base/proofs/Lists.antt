@@ -7,7 +7,7 @@ use native.Mathlib.Numerals.{add-one}
 use native.Mathlib.Omega.{arith}
 use lib.ListN.{length, getD, take, drop, set, length-append, take-append-drop}
 use lib.Seq.{slice, slice-cons, sets, sets-eq, take-suc, take-take, take-at, drop-at, drop-append-le, length-take-le}
-use Rattle.base.specs.Wrote.{Wrote}
+use Rattle.base.specs.inner.Wrote.{Wrote}
 
 pub slice-snoc : (f i : ℕ) (l : List ℕ) → f ≤ i → i < length l → slice f (suc i) l ≡ slice f i l ++ (getD l i 0 ∷ [])
 slice-snoc f i l p q =

@@ -4,7 +4,7 @@ use mathlib.Core.Path.{_≡_, refl}
 use mathlib.Core.Bool.{Bool, true, false, not}
 use borrow.Author.Tests.{eqb-true, eqb-false, not-true, not-false}
 use lib.Dec.{eqb}
-use Rattle.base.specs.Decides.{Decides}
+use Rattle.base.specs.inner.Decides.{Decides}
 
 -- A test of one fact is a test of any other that holds exactly if it does.
 pub same-test : {P Q : Type 0} (b : Bool) → (P → Q) → (Q → P) → Decides P b → Decides Q b

@@ -1,5 +1,4 @@
-pub mod Decides
 pub mod Limits
 pub mod Spaced
 pub mod Text
-pub mod Wrote
+pub mod inner

@@ -4,7 +4,7 @@ ghost use mathlib.Core.List.{[], _∷_};
 ghost use Prim.Native.Nat.{_+_, _≤_, _<_};
 ghost use lib.ListN.{length};
 ghost use Rattle.base.specs.Text.{cr, lf};
-ghost use Rattle.base.specs.Wrote.{Wrote};
+ghost use Rattle.base.specs.inner.Wrote.{Wrote};
 
 // The largest offset, in microseconds: eleven digits of milliseconds and three of their fraction.
 pub const OFFSET_LIMIT: u64 = 99_999_999_999_999;

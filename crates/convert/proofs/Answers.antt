@@ -5,9 +5,10 @@ use mathlib.Core.List.{List, [], _∷_, _++_}
 use native.Mathlib.Omega.{arith}
 use lib.ListN.{length, take, drop, length-append}
 use lib.Seq.{take-at}
+use Rattle.convert.specs.inner.Page.{PutOnPage}
 use Rattle.digits.proofs.House.{few}
 use Rattle.trace.specs.Trace.{Trace, Spells}
-use Rattle.trace.specs.Promise.{Lines, Reached, Refused}
+use Rattle.trace.specs.Promise.{EndedLines, Reached, RefusedAtLine}
 use Rattle.trace.specs.Promise as trace
 use Rattle.trace.proofs.One.{one-trace}
 use Rattle.trace.proofs.Answers.{refused-one, not-refused, refused-numbers}
@@ -17,8 +18,9 @@ use Rattle.ascii.specs.Promise.{Exports}
 use Rattle.ascii.proofs.Exporting.{exports-one, export-most}
 use Rattle.convert.specs.declared.Printed.{Printed}
 use Rattle.convert.specs.declared.Printed.the-variants as printed
-use Rattle.convert.specs.Promise.{inputLimit, refusalText, Prints, TooShort, Put, ConvertPromise, recordsRoom, pageRoom}
+use Rattle.convert.specs.Promise.{inputLimit, refusalText, Prints, TooShort, ConvertPromise, recordsRoom, pageRoom}
 use Rattle.convert.specs.Promise as promise
+use Rattle.convert.specs.inner.Page as on-page
 use Rattle.convert.proofs.Texts.{refusal-length}
 
 -- Two traces spelled by one input export to one text.
@@ -44,14 +46,14 @@ count-one s z = ap (λ (t : Trace). length (t .records)) (one-trace s z)
 
 -- What is to be printed was put, if it had room; the records of a good trace had room.
 pub answered : {input text before after : List ℕ} {records : ℕ} {r : Printed} → Prints input text
-    → ((t : Trace) → length input ≤ inputLimit → Spells t input → 20 * length (t .records) ≤ records) → Put text before r after
+    → ((t : Trace) → length input ≤ inputLimit → Spells t input → 20 * length (t .records) ≤ records) → PutOnPage text before r after
     → ConvertPromise input records before r after
-answered {input} {text} {before} {records = records} p held (promise.put l e q) = promise.page p enough e q
+answered {input} {text} {before} {records = records} p held (on-page.put l e q) = promise.page p enough e q
   where
     enough : TooShort input records (length before) → ⊥
     enough (promise.no-records {t = t} h s m) = omega (arith, held t h s)
     enough (promise.no-page o m) = omega (arith, ap length (one-print p o))
-answered p held (promise.no-room l e q) = promise.short (promise.no-page p l) e q
+answered p held (on-page.no-room l e q) = promise.short (promise.no-page p l) e q
 
 -- The promise leaves one answer and one page only.
 pub one-convert : {input before x y : List ℕ} {records : ℕ} {a b : Printed} → ConvertPromise input records before a x
@@ -82,14 +84,14 @@ pub empty-export : {input before after : List ℕ} {records : ℕ} {t : Trace} {
     → 20 * length (t .records) ≤ records → Exports (t .start) (t .records) [] → ConvertPromise input records before r after
     → (r ≡ printed.Page 0) × (after ≡ before)
 empty-export h s l e p =
-    one-convert p (answered (promise.export h s e) (λ u k z. omega (arith, count-one s z)) (promise.put (omega arith) refl refl))
+    one-convert p (answered (promise.export h s e) (λ u k z. omega (arith, count-one s z)) (on-page.put (omega arith) refl refl))
 
 -- And 0 bytes are the answer only where nothing is to be printed.
 pub empty-page : {input before after : List ℕ} {records : ℕ} → ConvertPromise input records before (printed.Page 0) after → Prints input []
 empty-page p = paged p .1
 
 -- The place of a refusal is at most one more than the lines.
-lines-few : {n : ℕ} {s : List ℕ} → Lines n s → 2 * n ≤ length s
+lines-few : {n : ℕ} {s : List ℕ} → EndedLines n s → 2 * n ≤ length s
 lines-few trace.none = omega arith
 lines-few (trace.line {l = l} {rest = rest} f ls) =
     omega (arith, ap length (f .ended), length-append l (13 ∷ 10 ∷ rest), lines-few ls)
@@ -97,7 +99,7 @@ lines-few (trace.line {l = l} {rest = rest} f ls) =
 reached-few : {n : ℕ} {rest text : List ℕ} → Reached n rest text → 2 * n ≤ length text
 reached-few {rest = rest} r = omega (arith, lines-few (r .lines), ap length (r .whole), length-append (r .front) rest)
 
-place-few : {text : List ℕ} {number place : ℕ} → Refused text number place → place ≤ length text + 1
+place-few : {text : List ℕ} {number place : ℕ} → RefusedAtLine text number place → place ≤ length text + 1
 place-few (trace.unended r x f) = omega (arith, reached-few r)
 place-few (trace.long r f l) = omega (arith, reached-few r)
 place-few (trace.no-first r) = omega arith

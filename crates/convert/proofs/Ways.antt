@@ -5,15 +5,16 @@ use mathlib.Core.Logic.{_≢_}
 use mathlib.Core.List.{List}
 use native.Mathlib.Omega.{arith}
 use lib.ListN.{length, take}
+use Rattle.convert.specs.inner.Page.{PutOnPage, put}
 use Rattle.record.specs.declared.Record.{Record}
-use Rattle.records.specs.Records.{Holds}
+use Rattle.records.specs.Records.{PacksAll}
 use Rattle.records.proofs.Packing.{packed-length}
-use Rattle.records.proofs.Records.{holds-one, none-malformed}
+use Rattle.records.proofs.Records.{packs-all-one, none-malformed}
 use Rattle.row.specs.Versions.{Version}
 use Rattle.row.proofs.EachVersion.{version-low}
 use Rattle.trace.specs.declared.Outcome.the-variants as outcome
 use Rattle.trace.specs.Trace.{Trace, Spells, traceOf}
-use Rattle.trace.specs.Promise.{readNumbers, ReadPromise, Refused}
+use Rattle.trace.specs.Promise.{readNumbers, ReadPromise, RefusedAtLine}
 use Rattle.trace.specs.House.{Writable}
 use Rattle.trace.proofs.Answers.{not-refused, refused-numbers}
 use Rattle.trace.proofs.There.{read-writable}
@@ -23,16 +24,16 @@ use Rattle.ascii.specs.Promise.{exportNumbers, Numbered, is-refused, Exports, E
 use Rattle.ascii.specs.Promise as ascii
 use Rattle.convert.specs.declared.Printed.{Printed}
 use Rattle.convert.specs.declared.Printed.the-variants as printed
-use Rattle.convert.specs.Promise.{inputLimit, refusalText, large, refused, export, TooShort, no-records, no-page, Put, put, ConvertPromise, short}
+use Rattle.convert.specs.Promise.{inputLimit, refusalText, large, refused, export, TooShort, no-records, no-page, ConvertPromise, short}
 use Rattle.convert.proofs.Answers.{count-one, answered}
 
 -- The input is too long, or is refused: its line is put, if there is room for it.
-pub too-long : {input before after : List ℕ} {records : ℕ} {r : Printed} → inputLimit < length input → Put (refusalText 1 0) before r after
+pub too-long : {input before after : List ℕ} {records : ℕ} {r : Printed} → inputLimit < length input → PutOnPage (refusalText 1 0) before r after
     → ConvertPromise input records before r after
 too-long h p = answered (large h) (λ t k s. omega arith) p
 
-pub refused-input : {n o : ℕ} {input before after : List ℕ} {records : ℕ} {r : Printed} → length input ≤ inputLimit → Refused input n o
-    → Put (refusalText n o) before r after → ConvertPromise input records before r after
+pub refused-input : {n o : ℕ} {input before after : List ℕ} {records : ℕ} {r : Printed} → length input ≤ inputLimit → RefusedAtLine input n o
+    → PutOnPage (refusalText n o) before r after → ConvertPromise input records before r after
 refused-input h f p = answered (refused h f) (λ t k s. absurd (not-refused (omega arith) s f)) p
 
 -- A refusal of the reader has no numbers of an accepted trace.
@@ -49,7 +50,7 @@ unheld {n} h (ReadPromise.refused {n = m} l f e q) d = let g : n ≡ m = cc in a
 
 -- It answers any other number: the input is refused.
 pub unread : {n p : ℕ} {input records x : List ℕ} → length input ≤ inputLimit
-    → ReadPromise input records (readNumbers (outcome.Refused n p)) x → n ≢ 8 → Refused input n p
+    → ReadPromise input records (readNumbers (outcome.Refused n p)) x → n ≢ 8 → RefusedAtLine input n p
 unread h (ReadPromise.large l e q) d = absurd (omega arith)
 unread h (ReadPromise.done {t = t} l s r e q) d = absurd (not-done (read-writable s .version) (cc))
 unread {n} h (ReadPromise.no-room l s r e q) d = let g : n ≡ 8 = cc in absurd (d g)
@@ -65,11 +66,11 @@ module _ {version start rows steps : ℕ} {input records x : List ℕ} (h : leng
   able : Writable (traceOf version start (reading .records))
   able = read-writable (reading .spelled)
 
-  held : Holds (reading .records) (take (20 * rows) x)
+  held : PacksAll (reading .records) (take (20 * rows) x)
   held = record { formed = able .formed; bytes = reading .front }
 
   -- Records that were read are not refused.
-  never : {n q : ℕ} → ascii.Stopped start (take (20 * rows) x) n q → ⊥
+  never : {n q : ℕ} → ascii.ExportStopped start (take (20 * rows) x) n q → ⊥
   never (ascii.no-records f) =
       let l = ap length (held .bytes) ∙ packed-length (reading .records) in
       f (record { twenties = omega arith; few = omega (arith, able .few) })
@@ -78,7 +79,7 @@ module _ {version start rows steps : ℕ} {input records x : List ℕ} (h : leng
 
   -- The text that they export to is that of the trace.
   of-trace : {text : List ℕ} {rs : List Record} → ascii.Given start (take (20 * rows) x) rs text → Exports start (reading .records) text
-  of-trace g = rw (holds-one (g .holds) held) at (g .exports)
+  of-trace g = rw (packs-all-one (g .packs) held) at (g .exports)
 
   -- The records of the trace, whatever trace it is, had room.
   held-all : (t : Trace) → length input ≤ inputLimit → Spells t input → 20 * length (t .records) ≤ length records

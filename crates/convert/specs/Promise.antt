@@ -6,7 +6,7 @@ use lib.ListN.{length, drop}
 use Rattle.base.specs.Text.{text, cr, lf}
 use Rattle.digits.specs.House.{decimalText}
 use Rattle.trace.specs.Trace.{Trace, Spells}
-use Rattle.trace.specs.Promise.{Refused}
+use Rattle.trace.specs.Promise.{RefusedAtLine}
 use Rattle.ascii.specs.Promise.{Exports}
 use Rattle.convert.specs.declared.Printed.{Printed}
 use Rattle.convert.specs.declared.Printed.the-variants as printed
@@ -23,7 +23,7 @@ refusalText number place =
 -- What is printed for an input, whatever it is.
 pub data Prints (input : List ℕ) : List ℕ → Type 0 where
   large : inputLimit < length input → Prints input (refusalText 1 0)
-  refused : {number place : ℕ} → length input ≤ inputLimit → Refused input number place → Prints input (refusalText number place)
+  refused : {number place : ℕ} → length input ≤ inputLimit → RefusedAtLine input number place → Prints input (refusalText number place)
   export : {t : Trace} {text : List ℕ} → length input ≤ inputLimit → Spells t input → Exports (t .start) (t .records) text
       → Prints input text
 
@@ -32,11 +32,6 @@ pub data Prints (input : List ℕ) : List ℕ → Type 0 where
 pub data TooShort (input : List ℕ) (records page : ℕ) : Type 0 where
   no-records : {t : Trace} → length input ≤ inputLimit → Spells t input → records < 20 * length (t .records) → TooShort input records page
   no-page : {text : List ℕ} → Prints input text → page < length text → TooShort input records page
-
--- A text stands at the start of what the page then holds, and behind it what was there; where it has no room the page is untouched.
-pub data Put (text before : List ℕ) (r : Printed) (after : List ℕ) : Type 0 where
-  put : length text ≤ length before → r ≡ printed.Page (length text) → after ≡ text ++ drop (length text) before → Put text before r after
-  no-room : length before < length text → r ≡ printed.Short → after ≡ before → Put text before r after
 
 -- `convert` of an input, with so many bytes lent for records, and a page that held `before` and then holds `after`, gives the answer r.
 pub data ConvertPromise (input : List ℕ) (records : ℕ) (before : List ℕ) (r : Printed) (after : List ℕ) : Type 0 where

@@ -7,7 +7,8 @@ use digits::put_decimal;
 use trace::Outcome;
 use trace::read;
 ghost use lib.ListN.{length};
-ghost use Rattle.convert.specs.Promise.{refusalText, Put, ConvertPromise};
+ghost use Rattle.convert.specs.inner.Page.{PutOnPage};
+ghost use Rattle.convert.specs.Promise.{refusalText, ConvertPromise};
 
 // The most bytes of an input.
 pub const INPUT_LIMIT: usize = 65_536;
@@ -23,7 +24,7 @@ const REFUSAL: usize = 8 + 9 + 2;
 
 // Puts the line of a refusal at the start of the page, if there is room for it.
 fn put_refusal(page: &mut [u8], number: u64, place: u64) -> Printed
-    ensures { λ r. ⌜ Put (refusalText number place) (now (page .entry)) r (now (page .exit)) ⌝ }
+    ensures { λ r. ⌜ PutOnPage (refusalText number place) (now (page .entry)) r (now (page .exit)) ⌝ }
 {
     let size = decimal_length(number) + decimal_length(place) + REFUSAL;
     if page.len() < size {

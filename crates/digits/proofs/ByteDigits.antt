@@ -6,9 +6,10 @@ use mathlib.Core.List.{List}
 use native.Mathlib.Omega.{arith}
 use lib.ListN.{length, getD, set, length-set}
 use lib.Seq.{getD-set-same, getD-set-other}
+use Rattle.digits.specs.inner.Pairs.{PairsOf}
 use Rattle.base.proofs.Numbers.{below-or-not}
 use Rattle.digits.specs.declared.Letters.{Letters}
-use Rattle.digits.specs.House.{glyphOf, PairsOf}
+use Rattle.digits.specs.House.{glyphOf}
 
 pub record PairsTo (c : Letters) (n : ℕ) (t : List ℕ) : Type 0 where
   pub high : (b : ℕ) → b < n → getD t (2 * b) 0 ≡ glyphOf c (b / 16)

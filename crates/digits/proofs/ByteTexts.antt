@@ -6,12 +6,13 @@ use native.Mathlib.Nat.{add-zero, div-one, pow-zero, pow-suc, suc-mul, mul-comm,
 use native.Mathlib.Omega.{arith}
 use lib.Pow.{pow-add, shl-shr}
 use lib.ListN.{length, getD, length-append}
-use Rattle.base.specs.Wrote.{Wrote}
+use Rattle.digits.specs.inner.Pairs.{PairsOf}
+use Rattle.base.specs.inner.Wrote.{Wrote}
 use Rattle.base.specs.Spaced.{spaced}
 use Rattle.base.proofs.Lists.{then}
 use Rattle.base.proofs.Spaced.{spaced-none, spaced-more, spaced-append}
 use Rattle.digits.specs.declared.Letters.{Letters}
-use Rattle.digits.specs.House.{glyphOf, PairsOf, hexText, byteTexts}
+use Rattle.digits.specs.House.{glyphOf, hexText, byteTexts}
 use Rattle.digits.proofs.House.{fixed-zero, fixed-step, length-fixed}
 
 pub two-digits : (x : Letters) (b : ℕ) → b < 256 → hexText x 2 b ≡ glyphOf x (b / 16) ∷ glyphOf x (b % 16) ∷ []

@@ -8,7 +8,7 @@ use lib.ListN.{length, getD, take}
 use lib.Seq.{take-suc, length-take-le, take-length}
 use Rattle.digits.specs.declared.Number.{Number}
 use Rattle.digits.specs.declared.Number.the-variants.{Value, Not}
-use Rattle.digits.specs.Answer.{Answers, DigitOr255, digit, none}
+use Rattle.digits.specs.inner.Answer.{Answers, DigitOr255, digit, none}
 use Rattle.digits.specs.Digits.{HexDigit, Digits}
 use Rattle.digits.specs.Digits.{none as empty}
 use Rattle.digits.proofs.Strings.{System, snoc, each, within, hex}

@@ -6,7 +6,7 @@ use lib.ListN.{length}
 use Rattle.digits.specs.declared.Letters.{Letters}
 use Rattle.digits.specs.declared.Letters.the-variants.{Capital, Small}
 use Rattle.digits.specs.declared.Number.{Number}
-use Rattle.digits.specs.Answer.{Answers, DigitOr255, digit, none, ReadDecimal, ReadPadded, ReadHex}
+use Rattle.digits.specs.inner.Answer.{Answers, DigitOr255, digit, none, ReadDecimal, ReadPadded, ReadHex}
 use Rattle.digits.specs.Digits.{CasedDigit, HexDigit, capital, small, Digits, Decimal, Padded, Hex, CasedHex}
 use Rattle.digits.specs.Digits.{none as empty, more}
 use Rattle.digits.specs.House.{tenOf, hexText, paddedText, decimalText}

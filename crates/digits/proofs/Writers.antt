@@ -7,7 +7,7 @@ use native.Mathlib.Nat.{add-zero, add-suc}
 use native.Mathlib.Omega.{arith}
 use lib.ListN.{length, take, drop, set}
 use lib.Seq.{sets, set-comm, take-at}
-use Rattle.base.specs.Wrote.{Wrote}
+use Rattle.base.specs.inner.Wrote.{Wrote}
 use Rattle.base.proofs.Lists.{at-start}
 use Rattle.digits.specs.House.{fixed, decimalText, Kept}
 use Rattle.digits.proofs.House.{fixed-zero, fixed-step, length-fixed, word-few}

@@ -1,11 +1,11 @@
 -- The spelling that is written: the house's one text for a number.
-use Prim.Native.Nat.{ℕ, zero, suc, _+_, _*_, _-_, _/_, _%_, _≤_, _<_}
+use Prim.Native.Nat.{ℕ, zero, suc, _+_, _-_, _/_, _%_, _≤_}
 use Prim.Native.Char.{code}
 use mathlib.Core.Path.{_≡_}
 use mathlib.Core.Bool.{true, false}
 use mathlib.Core.List.{List, [], _∷_, _++_}
 use lib.Dec.{ltb}
-use lib.ListN.{length, take, getD}
+use lib.ListN.{take}
 use Rattle.digits.specs.declared.Letters.{Letters}
 use Rattle.digits.specs.declared.Letters.the-variants.{Capital, Small}
 
@@ -21,12 +21,6 @@ tenOf Small = code "a"
 -- The byte of a hexadecimal digit.
 unfoldable pub glyphOf : Letters → ℕ → ℕ
 glyphOf c d = elim (ltb d 10) [ true ↦ figureOf d | false ↦ tenOf c + (d - 10) ]
-
--- The two digits of each byte, one pair behind the other.
-pub record PairsOf (c : Letters) (t : List ℕ) : Type 0 where
-  pub long : length t ≡ 512
-  pub high : (b : ℕ) → b < 256 → getD t (2 * b) 0 ≡ glyphOf c (b / 16)
-  pub low : (b : ℕ) → b < 256 → getD t (2 * b + 1) 0 ≡ glyphOf c (b % 16)
 
 -- n in base b in exactly w digits, zeros kept: the last digit is the remainder, those before it spell the quotient.
 unfoldable pub fixed : (ℕ → ℕ) → ℕ → ℕ → ℕ → List ℕ

@@ -1,3 +1,3 @@
-pub mod Answer
 pub mod Digits
 pub mod House
+pub mod inner

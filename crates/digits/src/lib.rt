@@ -6,14 +6,15 @@ ghost use mathlib.Core.Path.{_≡_};
 ghost use mathlib.Core.List.{_∷_};
 ghost use Prim.Native.Nat.{_+_, _*_, _^_, _≤_, _<_};
 ghost use lib.ListN.{length, take};
-ghost use Rattle.base.specs.Decides.{Decides};
+ghost use Rattle.digits.specs.inner.Pairs.{PairsOf};
+ghost use Rattle.base.specs.inner.Decides.{Decides};
 ghost use Rattle.base.specs.Spaced.{spaced};
 ghost use Rattle.base.specs.Text.{blank};
-ghost use Rattle.base.specs.Wrote.{Wrote};
+ghost use Rattle.base.specs.inner.Wrote.{Wrote};
 ghost use Rattle.digits.specs.declared.Letters.{Letters};
-ghost use Rattle.digits.specs.Answer.{Answers, DigitOr255, ReadDecimal, ReadPadded, ReadHex};
+ghost use Rattle.digits.specs.inner.Answer.{Answers, DigitOr255, ReadDecimal, ReadPadded, ReadHex};
 ghost use Rattle.digits.specs.Digits.{HexDigit, IsHex};
-ghost use Rattle.digits.specs.House.{glyphOf, PairsOf, paddedText, hexText, decimalText, Kept, byteTexts};
+ghost use Rattle.digits.specs.House.{glyphOf, paddedText, hexText, decimalText, Kept, byteTexts};
 
 pub enum Number {
     Value(u64),

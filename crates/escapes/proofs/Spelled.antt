@@ -6,11 +6,11 @@ use mathlib.Core.List.{List, [], _∷_, _++_}
 use native.Mathlib.Omega.{arith}
 use lib.ListN.{length}
 use Rattle.digits.specs.Digits.{HexDigit}
-use Rattle.digits.specs.Answer.{DigitOr255}
-use Rattle.digits.specs.Answer.{digit as is-digit}
+use Rattle.digits.specs.inner.Answer.{DigitOr255}
+use Rattle.digits.specs.inner.Answer.{digit as is-digit}
 use Rattle.digits.proofs.Strings.{hex as hexadecimal}
 use Rattle.digits.proofs.Theorems.{one-digit}
-use Rattle.escapes.specs.Escapes.{Lettered, return, feed, tab, itself, Stands, plain, letter, byte, Begun, nothing, backslash, hex, digit, After}
+use Rattle.escapes.specs.Escapes.{Lettered, return, feed, tab, itself, StandsFor, plain, letter, byte, Begun, nothing, backslash, hex, digit, After}
 
 first : {x y : ℕ} {s t : List ℕ} → x ∷ s ≡ y ∷ t → x ≡ y
 first e = cc
@@ -55,7 +55,7 @@ module _ {n : ℕ} {s : List ℕ} (k : Begun n s) (z : n ≡ 0) where
   pub backslash-begun : {b : ℕ} → b ≡ 92 → After s b 1
   backslash-begun {b} q = rw empty (record { ended = over; begun = on })
     where
-      over : (x : ℕ) → Stands (b ∷ []) x → _≡_ {A = ℕ} 1 0
+      over : (x : ℕ) → StandsFor (b ∷ []) x → _≡_ {A = ℕ} 1 0
       over x (plain e h) = absurd (h (sym (first e) ∙ q))
       over x (letter e h l) = omega (arith, ap length e)
       over x (byte e p r h) = omega (arith, ap length e)
@@ -75,10 +75,10 @@ module _ {n : ℕ} {s : List ℕ} (k : Begun n s) (z : n ≡ 0) where
       on n (hex m e) = omega (arith, ap length e)
       on n (digit m e p) = omega (arith, ap length e)
 
-  pub plain-is : {b x : ℕ} → Stands (s ++ (b ∷ [])) x → b ≡ x
+  pub plain-is : {b x : ℕ} → StandsFor (s ++ (b ∷ [])) x → b ≡ x
   plain-is {b} {x} y = go (rw empty at y)
     where
-      go : Stands (b ∷ []) x → b ≡ x
+      go : StandsFor (b ∷ []) x → b ≡ x
       go (plain e h) = first e
       go (letter e h l) = omega (arith, ap length e)
       go (byte e p r h) = omega (arith, ap length e)
@@ -97,7 +97,7 @@ module _ {n : ℕ} {s : List ℕ} (k : Begun n s) (z : n ≡ 1) where
   pub hex-begun : {b : ℕ} → b ≡ 120 → After s b 2
   hex-begun {b} q = rw one-byte (record { ended = over; begun = on })
     where
-      over : (x : ℕ) → Stands (92 ∷ b ∷ []) x → _≡_ {A = ℕ} 2 0
+      over : (x : ℕ) → StandsFor (92 ∷ b ∷ []) x → _≡_ {A = ℕ} 2 0
       over x (plain e h) = omega (arith, ap length e)
       over x (letter e h l) = absurd (h (sym (first (rest e)) ∙ q))
       over x (byte e p r h) = omega (arith, ap length e)
@@ -117,10 +117,10 @@ module _ {n : ℕ} {s : List ℕ} (k : Begun n s) (z : n ≡ 1) where
       on n (hex m e) = absurd (q (first (rest e)))
       on n (digit m e p) = omega (arith, ap length e)
 
-  pub letter-is : {b r x : ℕ} → Lettered b r → Stands (s ++ (b ∷ [])) x → r ≡ x
+  pub letter-is : {b r x : ℕ} → Lettered b r → StandsFor (s ++ (b ∷ [])) x → r ≡ x
   letter-is {b} {r} {x} l y = go (rw one-byte at y)
     where
-      go : Stands (92 ∷ b ∷ []) x → r ≡ x
+      go : StandsFor (92 ∷ b ∷ []) x → r ≡ x
       go (plain e h) = omega (arith, ap length e)
       go (letter e h m) = lettered-one l (rw (sym (first (rest e))) at m)
       go (byte e p q h) = omega (arith, ap length e)
@@ -139,7 +139,7 @@ module _ {n : ℕ} {s : List ℕ} (k : Begun n s) (z : n ≡ 2) where
   pub digit-begun : {b v r : ℕ} → DigitOr255 b v → r ≡ 256 + 16 * v → After s b r
   digit-begun {b} {v} {r} g q = rw two-bytes (record { ended = over; begun = on })
     where
-      over : (x : ℕ) → Stands (92 ∷ 120 ∷ b ∷ []) x → r ≡ 0
+      over : (x : ℕ) → StandsFor (92 ∷ 120 ∷ b ∷ []) x → r ≡ 0
       over x (plain e h) = omega (arith, ap length e)
       over x (letter e h l) = omega (arith, ap length e)
       over x (byte e p t h) = omega (arith, ap length e)
@@ -167,7 +167,7 @@ module _ {n : ℕ} {s : List ℕ} (k : Begun n s) (y : n ≢ 0) (z : n ≢ 1) wh
           on (hex q f) = omega (arith, ap length f)
           on (digit q f g) = omega (arith, ap length f)
 
-  pub byte-is : {b v r x : ℕ} → DigitOr255 b v → r ≡ (n % 256 + v) % 256 → Stands (s ++ (b ∷ [])) x → r ≡ x
+  pub byte-is : {b v r x : ℕ} → DigitOr255 b v → r ≡ (n % 256 + v) % 256 → StandsFor (s ++ (b ∷ [])) x → r ≡ x
   byte-is {b} {v} {r} {x} g q t = go k
     where
       go : Begun n s → r ≡ x
@@ -175,13 +175,13 @@ module _ {n : ℕ} {s : List ℕ} (k : Begun n s) (y : n ≢ 0) (z : n ≢ 1) wh
       go (backslash h e) = absurd (z h)
       go (hex h e) = on (rw e at t)
         where
-          on : Stands (92 ∷ 120 ∷ b ∷ []) x → r ≡ x
+          on : StandsFor (92 ∷ 120 ∷ b ∷ []) x → r ≡ x
           on (plain f i) = omega (arith, ap length f)
           on (letter f i l) = omega (arith, ap length f)
           on (byte f i j l) = omega (arith, ap length f)
       go (digit {a = a} {d = d} h e p) = on (rw e at t)
         where
-          on : Stands (92 ∷ 120 ∷ a ∷ b ∷ []) x → r ≡ x
+          on : StandsFor (92 ∷ 120 ∷ a ∷ b ∷ []) x → r ≡ x
           on (plain f i) = omega (arith, ap length f)
           on (letter f i l) = omega (arith, ap length f)
           on (byte f i j l) =

@@ -14,10 +14,10 @@ pub data Lettered (b x : ℕ) : Type 0 where
   itself : b ≢ code "r" → b ≢ code "n" → b ≢ code "t" → x ≡ b → Lettered b x
 
 -- The bytes s stand for x: a byte that is no backslash, a backslash and a letter, or a backslash, an x and two hexadecimal digits.
-pub data Stands (s : List ℕ) (x : ℕ) : Type 0 where
-  plain : s ≡ x ∷ [] → x ≢ code "\\" → Stands s x
-  letter : {b : ℕ} → s ≡ code "\\" ∷ b ∷ [] → b ≢ code "x" → Lettered b x → Stands s x
-  byte : {a b d e : ℕ} → s ≡ code "\\" ∷ code "x" ∷ a ∷ b ∷ [] → HexDigit a d → HexDigit b e → x ≡ 16 * d + e → Stands s x
+pub data StandsFor (s : List ℕ) (x : ℕ) : Type 0 where
+  plain : s ≡ x ∷ [] → x ≢ code "\\" → StandsFor s x
+  letter : {b : ℕ} → s ≡ code "\\" ∷ b ∷ [] → b ≢ code "x" → Lettered b x → StandsFor s x
+  byte : {a b d e : ℕ} → s ≡ code "\\" ∷ code "x" ∷ a ∷ b ∷ [] → HexDigit a d → HexDigit b e → x ≡ 16 * d + e → StandsFor s x
 
 -- The number of what the bytes s begin.
 pub data Begun (n : ℕ) (s : List ℕ) : Type 0 where
@@ -28,5 +28,5 @@ pub data Begun (n : ℕ) (s : List ℕ) : Type 0 where
 
 -- With the byte b behind the bytes s, r is the number of what is begun, or 0 where they stand for a byte.
 pub record After (s : List ℕ) (b r : ℕ) : Type 0 where
-  pub ended : (x : ℕ) → Stands (s ++ (b ∷ [])) x → r ≡ 0
+  pub ended : (x : ℕ) → StandsFor (s ++ (b ∷ [])) x → r ≡ 0
   pub begun : (n : ℕ) → Begun n (s ++ (b ∷ [])) → r ≡ n

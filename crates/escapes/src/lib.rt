@@ -4,7 +4,7 @@ use digits::hex_digit;
 ghost use mathlib.Core.Path.{_≡_};
 ghost use mathlib.Core.List.{List, [], _∷_, _++_};
 ghost use Prim.Native.Nat.{ℕ};
-ghost use Rattle.escapes.specs.Escapes.{Stands, Begun, After};
+ghost use Rattle.escapes.specs.Escapes.{StandsFor, Begun, After};
 
 pub const NOTHING: u64 = 0;
 
@@ -40,7 +40,7 @@ pub fn after(begun: u64, b: u8) -> u64
 
 // The byte that is ended by b.
 pub fn ended(begun: u64, b: u8) -> u8
-    ensures { λ r. ⌜ ((s : List ℕ) (x : ℕ) → Begun begun s → Stands (s ++ (b ∷ [])) x → r ≡ x) ⌝ }
+    ensures { λ r. ⌜ ((s : List ℕ) (x : ℕ) → Begun begun s → StandsFor (s ++ (b ∷ [])) x → r ≡ x) ⌝ }
 {
     match begun {
         NOTHING => b,

@@ -11,8 +11,8 @@ use Rattle.base.proofs.Tables.{every, at}
 use Rattle.digits.specs.Digits.{DecimalDigit, CasedDigit, figure, letter, HexDigit, capital, small, Digits, Hex}
 use Rattle.digits.proofs.Theorems.{one-decimal, one-padded, one-hex}
 use Rattle.fields.specs.Runs.{All, empty, more, halt}
-use Rattle.fields.specs.Columns.{NumberField, OffsetField, BusField, LengthField, IdField, standard, long, Capital, markRx, markTx, markWarng, markError, remoteText}
-use Rattle.fields.specs.Window.{Solid, HexField, MarkField, rx, tx, warng, error}
+use Rattle.fields.specs.Columns.{NumberField, OffsetField, BusField, LengthField, IdField, standard, long, Capital, typeRx, typeTx, typeWarng, typeError, remoteText}
+use Rattle.fields.specs.inner.Window.{Solid, HexField, TypeField, rx, tx, warng, error}
 use Rattle.fields.proofs.Runs.{cut, all-map, all-append, all-of}
 use Rattle.fields.proofs.Scans.{Some, digits-all}
 
@@ -89,35 +89,35 @@ bus-plain p = decimals (p .spelled .digits)
 pub bus-some : {a : ℕ} {f : List ℕ} → BusField a f → 0 < length f
 bus-some p = p .spelled .some
 
--- The first letter tells the mark.
-abbrev mark-of : List ℕ → ℕ
-mark-of f =
+-- The first letter tells the type.
+abbrev type-of : List ℕ → ℕ
+type-of f =
     elim (eqb (getD f 0 0) 82) [ true ↦ 0 | false ↦ elim (eqb (getD f 0 0) 84) [ true ↦ 1 | false ↦ elim (eqb (getD f 0 0) 87) [ true ↦ 2 | false ↦ 3 ] ] ]
 
-mark-told : {v : ℕ} {f : List ℕ} → MarkField v f → v ≡ mark-of f
-mark-told (rx e) = rw e refl
-mark-told (tx e) = rw e refl
-mark-told (warng e) = rw e refl
-mark-told (error e) = rw e refl
+type-told : {v : ℕ} {f : List ℕ} → TypeField v f → v ≡ type-of f
+type-told (rx e) = rw e refl
+type-told (tx e) = rw e refl
+type-told (warng e) = rw e refl
+type-told (error e) = rw e refl
 
-pub mark-one : {a b : ℕ} {f : List ℕ} → MarkField a f → MarkField b f → a ≡ b
-mark-one p q = mark-told p ∙ sym (mark-told q)
+pub type-one : {a b : ℕ} {f : List ℕ} → TypeField a f → TypeField b f → a ≡ b
+type-one p q = type-told p ∙ sym (type-told q)
 
 -- A spelled-out text is plain where each of its bytes stands behind the blank, which antt computes.
 text-plain : (f : List ℕ) → T (every (λ k x. leb 33 x) 0 f) → All Plain f
 text-plain f t = all-of f (λ k h. visible (leb→le 33 (getD f k 0) (at (λ k x. leb 33 x) 0 f t k h)))
 
-pub mark-plain : {v : ℕ} {f : List ℕ} → MarkField v f → All Plain f
-mark-plain (rx e) = rw e (text-plain markRx tt)
-mark-plain (tx e) = rw e (text-plain markTx tt)
-mark-plain (warng e) = rw e (text-plain markWarng tt)
-mark-plain (error e) = rw e (text-plain markError tt)
+pub type-plain : {v : ℕ} {f : List ℕ} → TypeField v f → All Plain f
+type-plain (rx e) = rw e (text-plain typeRx tt)
+type-plain (tx e) = rw e (text-plain typeTx tt)
+type-plain (warng e) = rw e (text-plain typeWarng tt)
+type-plain (error e) = rw e (text-plain typeError tt)
 
-pub mark-some : {v : ℕ} {f : List ℕ} → MarkField v f → 0 < length f
-mark-some (rx e) = omega (arith, ap length e)
-mark-some (tx e) = omega (arith, ap length e)
-mark-some (warng e) = omega (arith, ap length e)
-mark-some (error e) = omega (arith, ap length e)
+pub type-some : {v : ℕ} {f : List ℕ} → TypeField v f → 0 < length f
+type-some (rx e) = omega (arith, ap length e)
+type-some (tx e) = omega (arith, ap length e)
+type-some (warng e) = omega (arith, ap length e)
+type-some (error e) = omega (arith, ap length e)
 
 pub remote-plain : {f : List ℕ} → f ≡ remoteText → All Plain f
 remote-plain e = rw e (text-plain remoteText tt)

@@ -20,7 +20,7 @@ use Rattle.digits.proofs.Theorems.{decimal-few}
 use Rattle.fields.specs.declared.Scan.{Scan}
 use Rattle.fields.specs.Runs.{All, empty, more, Stops, over, halt}
 use Rattle.fields.specs.Columns.{NumberField, OffsetField, BusField}
-use Rattle.fields.specs.Window.{Solid, Lined, FieldAt, Scanned, Takes, taken, HexField}
+use Rattle.fields.specs.inner.Window.{Solid, Lined, FieldAt, Scanned, Takes, taken, HexField}
 use Rattle.fields.proofs.Runs.{all-map, all-append}
 use Rattle.fields.proofs.Window.{End, head-at, inside, next-lined, slice-drop, no-stop, field-of}
 use Rattle.fields.proofs.Digits.{below-zero}
@@ -134,7 +134,7 @@ number-lead w at {rest = rest} a p = lead w at _ (p .spelled) (p .low) (spread (
 pub record NumberShape (w : List ℕ) (at : ℕ) (s : Scan) : Type 0 where
   pub some : at < s .end
   pub few : s .end ≤ at + 6
-  pub mark : getD w (s .end) 0 ≡ 41
+  pub bracketed : getD w (s .end) 0 ≡ 41
   pub stop : End (getD w (s .end + 1) 0)
 
 pub number-shape : {w : List ℕ} {at k : ℕ} {s : Scan} {f rest : List ℕ} → Scanned DecimalDigit 10 12 w at s → FieldAt f rest (drop at w)
@@ -148,7 +148,7 @@ number-shape {w} {at} {k} {s} {f} {rest} c a p =
     record {
       some = omega arith;
       few = omega arith;
-      mark = h .1;
+      bracketed = h .1;
       stop = ended w (s .end + 1) (goes-on w (s .end) 41 (c .lined) (h .1) (omega arith)) (rw (h .2) (a .stops));
     }
 
@@ -158,7 +158,7 @@ number-accept {w} {at} {s} c z h =
     let l = inside w (s .end) (c .lined) in
     let m = h .some in
     let e : slice at (s .end + 1) w ≡ slice at (s .end) w ++ (41 ∷ []) =
-    rw (add-one, slice-snoc at (s .end) w (omega arith) l, h .mark) in
+    rw (add-one, slice-snoc at (s .end) w (omega arith) l, h .bracketed) in
     let n = scan-within c 6 (h .few) in
     let b : Solid 41 = record { blank = λ q. omega arith; end = λ q. omega arith } in
     accept NumberField w at (s .end + 1) (s .value) (omega arith) (omega arith)

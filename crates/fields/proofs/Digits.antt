@@ -9,7 +9,7 @@ use Rattle.base.proofs.Lists.{slice-snoc}
 use Rattle.digits.specs.Digits.{DecimalDigit, Digits}
 use Rattle.digits.specs.Digits.{none as no-digits}
 use Rattle.digits.proofs.Strings.{System, snoc, within}
-use Rattle.fields.specs.Window.{Solid, Lined, Scanned}
+use Rattle.fields.specs.inner.Window.{Solid, Lined, Scanned}
 use Rattle.fields.proofs.Scans.{Some}
 use Rattle.fields.proofs.Window.{inside, next-lined}
 

@@ -13,15 +13,15 @@ use lib.Dec.{eqb}
 use lib.ListN.{length, getD, drop, length-append, List·getD-append}
 use lib.Seq.{slice, slice-empty, length-slice, drop-cons, drop-drop, drop-append-seam, getD-drop, getD-append-seam}
 use Rattle.base.proofs.Lists.{slice-snoc}
-use Rattle.base.specs.Decides.{Decides}
+use Rattle.base.specs.inner.Decides.{Decides}
 use Rattle.base.proofs.Tests.{shown-not}
 use Rattle.digits.specs.Digits.{HexDigit, Hex}
 use Rattle.digits.specs.Digits.{none as no-digits, more as digits-more}
 use Rattle.digits.proofs.Strings.{each}
 use Rattle.fields.specs.Runs.{All, empty, more, Stops, over, halt}
 use Rattle.fields.specs.declared.Scan.{Scan}
-use Rattle.fields.specs.Columns.{LengthField, Capital, markRx, markTx, markWarng, markError}
-use Rattle.fields.specs.Window.{Solid, Lined, FieldAt, Starts, Takes, taken, not as none-taken, MarkField, rx, tx, warng, error}
+use Rattle.fields.specs.Columns.{LengthField, Capital, typeRx, typeTx, typeWarng, typeError}
+use Rattle.fields.specs.inner.Window.{Solid, Lined, FieldAt, Starts, Takes, taken, not as none-taken, TypeField, rx, tx, warng, error}
 use Rattle.fields.proofs.Runs.{cut, all-map, all-append}
 use Rattle.fields.proofs.Window.{End, inside, next-lined, slice-drop, stops-here, no-stop, field-of}
 
@@ -46,14 +46,14 @@ pub byte-at : (w : List ℕ) (at k : ℕ) {f rest : List ℕ} → FieldAt f rest
 byte-at w at k {f} {rest} a h = sym (getD-drop at w k 0) ∙ ap (λ (l : List ℕ). getD l k 0) (a .bytes) ∙ List·getD-append f rest 0 k h
 
 -- The bytes t stand from `at` on, none of them ends the field, and the line goes on behind them.
-pub record Stands (t w : List ℕ) (at : ℕ) : Type 0 where
+pub record StandsAt (t w : List ℕ) (at : ℕ) : Type 0 where
   pub bytes : drop at w ≡ t ++ drop (at + length t) w
   pub solid : All Solid t
   pub lined : Lined (drop (at + length t) w)
 
 module _ {w : List ℕ} {at : ℕ} where
   -- the first byte
-  pub first : {b : ℕ} → Starts w at → getD w at 0 ≡ b → Stands (b ∷ []) w at
+  pub first : {b : ℕ} → Starts w at → getD w at 0 ≡ b → StandsAt (b ∷ []) w at
   first {b} s e = record {
     bytes = drop-cons w at 0 (inside w at (s .lined)) ∙ rw (e, add-one);
     solid = more (rw e at (s .solid)) empty;
@@ -61,7 +61,7 @@ module _ {w : List ℕ} {at : ℕ} where
   }
 
   -- one byte more
-  pub then : {t : List ℕ} {b : ℕ} → Stands t w at → Solid b → getD w (at + length t) 0 ≡ b → Stands (t ++ (b ∷ [])) w at
+  pub then : {t : List ℕ} {b : ℕ} → StandsAt t w at → Solid b → getD w (at + length t) 0 ≡ b → StandsAt (t ++ (b ∷ [])) w at
   then {t} {b} p s e =
       let j = at + length t in
       let k : j + 1 ≡ at + length (t ++ (b ∷ [])) = omega (arith, length-append t (b ∷ [])) in
@@ -72,16 +72,16 @@ module _ {w : List ℕ} {at : ℕ} where
         lined = rw k at (next-lined w j (p .lined) (rw e (s .end)));
       }
 
-  pub here : {t : List ℕ} → Stands t w at → at + length t < length w
+  pub here : {t : List ℕ} → StandsAt t w at → at + length t < length w
   here {t} p = inside w (at + length t) (p .lined)
 
   -- a byte that ends the field behind them
-  pub ended : {t : List ℕ} → Stands t w at → 0 < length t → (r : Bool) → Decides (End (getD w (at + length t) 0)) r → not r ≡ false
+  pub ended : {t : List ℕ} → StandsAt t w at → 0 < length t → (r : Bool) → Decides (End (getD w (at + length t) 0)) r → not r ≡ false
       → FieldAt t (drop (at + length t) w) (drop at w)
   ended {t} p h r d e = record { bytes = p .bytes; some = h; solid = p .solid; stops = stops-here w (at + length t) (shown-not r d e) }
 
   -- no such byte: no field is as long as they are
-  pub unended : {t f rest : List ℕ} → Stands t w at → (r : Bool) → Decides (End (getD w (at + length t) 0)) r → not r ≡ true
+  pub unended : {t f rest : List ℕ} → StandsAt t w at → (r : Bool) → Decides (End (getD w (at + length t) 0)) r → not r ≡ true
       → FieldAt f rest (drop at w) → length f ≡ length t → ⊥
   unended {t} {f} {rest} p b d n a e =
       let j = at + length t in
@@ -93,7 +93,7 @@ module _ {w : List ℕ} {at : ℕ} where
   first-is s a = rw add-zero at (byte-at w at 0 a (a .some))
 
   -- and goes on with those behind it
-  pub then-is : {t f rest : List ℕ} → Stands t w at → FieldAt f rest (drop at w) → length t < length f
+  pub then-is : {t f rest : List ℕ} → StandsAt t w at → FieldAt f rest (drop at w) → length t < length f
       → getD w (at + length t) 0 ≡ getD f (length t) 0
   then-is {t} p a h = byte-at w at (length t) a h
 
@@ -101,7 +101,7 @@ module _ {w : List ℕ} {at : ℕ} where
   pub not-first : {b : ℕ} {u f rest : List ℕ} → Starts w at → getD w at 0 ≢ b → FieldAt f rest (drop at w) → f ≡ b ∷ u → ⊥
   not-first {b} s n a e = n (first-is s a ∙ ap (λ (l : List ℕ). getD l 0 0) e)
 
-  pub not-then : {b : ℕ} (u : List ℕ) {t f rest : List ℕ} → Stands t w at → getD w (at + length t) 0 ≢ b → FieldAt f rest (drop at w)
+  pub not-then : {b : ℕ} (u : List ℕ) {t f rest : List ℕ} → StandsAt t w at → getD w (at + length t) 0 ≢ b → FieldAt f rest (drop at w)
       → f ≡ t ++ (b ∷ u) → ⊥
   not-then {b} u {t} p n a e =
       n (then-is p a (omega (arith, ap length e ∙ length-append t (b ∷ u))) ∙ ap (λ (l : List ℕ). getD l (length t) 0) e ∙ getD-append-seam t b u 0)
@@ -125,56 +125,56 @@ two-digits {d = d} {e = e} p q =
 pub digit-first : {w f rest : List ℕ} {at v n : ℕ} → Starts w at → FieldAt f rest (drop at w) → Hex n v f → (d : ℕ) × HexDigit (getD w at 0) d
 digit-first s a p = let d = each (p .digits) 0 (a .some) in (d .0, rw (← (first-is s a)) at (d .1))
 
-pub digit-then : {t w f rest : List ℕ} {at v n : ℕ} → Stands t w at → FieldAt f rest (drop at w) → Hex n v f → length t < n
+pub digit-then : {t w f rest : List ℕ} {at v n : ℕ} → StandsAt t w at → FieldAt f rest (drop at w) → Hex n v f → length t < n
     → (d : ℕ) × HexDigit (getD w (at + length t) 0) d
 digit-then {t} {f = f} p a h l =
     let k : length t < length f = rw (h .width) l in
     let d = each (h .digits) (length t) k in
     (d .0, rw (← (then-is p a k)) at (d .1))
 
--- A mark is told by its first byte.
+-- A type is told by its first byte.
 abbrev head : List ℕ → ℕ
 head l = getD l 0 0
 
-abbrev markText : ℕ → List ℕ
-markText v = getD (markRx ∷ markTx ∷ markWarng ∷ markError ∷ []) v []
+abbrev typeText : ℕ → List ℕ
+typeText v = getD (typeRx ∷ typeTx ∷ typeWarng ∷ typeError ∷ []) v []
 
-abbrev markValue : ℕ → ℕ
-markValue b = elim (eqb b 82) [ true ↦ 0 | false ↦ elim (eqb b 84) [ true ↦ 1 | false ↦ elim (eqb b 87) [ true ↦ 2 | false ↦ 3 ] ] ]
+abbrev typeValue : ℕ → ℕ
+typeValue b = elim (eqb b 82) [ true ↦ 0 | false ↦ elim (eqb b 84) [ true ↦ 1 | false ↦ elim (eqb b 87) [ true ↦ 2 | false ↦ 3 ] ] ]
 
-mark-text : {v : ℕ} {f : List ℕ} → MarkField v f → f ≡ markText v
-mark-text (rx e) = e
-mark-text (tx e) = e
-mark-text (warng e) = e
-mark-text (error e) = e
+type-text : {v : ℕ} {f : List ℕ} → TypeField v f → f ≡ typeText v
+type-text (rx e) = e
+type-text (tx e) = e
+type-text (warng e) = e
+type-text (error e) = e
 
-mark-value : {v : ℕ} {f : List ℕ} → MarkField v f → markValue (head f) ≡ v
-mark-value (rx e) = ap (λ (l : List ℕ). markValue (head l)) e
-mark-value (tx e) = ap (λ (l : List ℕ). markValue (head l)) e
-mark-value (warng e) = ap (λ (l : List ℕ). markValue (head l)) e
-mark-value (error e) = ap (λ (l : List ℕ). markValue (head l)) e
+type-value : {v : ℕ} {f : List ℕ} → TypeField v f → typeValue (head f) ≡ v
+type-value (rx e) = ap (λ (l : List ℕ). typeValue (head l)) e
+type-value (tx e) = ap (λ (l : List ℕ). typeValue (head l)) e
+type-value (warng e) = ap (λ (l : List ℕ). typeValue (head l)) e
+type-value (error e) = ap (λ (l : List ℕ). typeValue (head l)) e
 
-mark-one : {v u : ℕ} {f g : List ℕ} → MarkField v f → MarkField u g → head f ≡ head g → (f ≡ g) × (v ≡ u)
-mark-one p q e =
-    let h = sym (mark-value p) ∙ ap markValue e ∙ mark-value q in
-    (mark-text p ∙ ap markText h ∙ sym (mark-text q), h)
+type-one : {v u : ℕ} {f g : List ℕ} → TypeField v f → TypeField u g → head f ≡ head g → (f ≡ g) × (v ≡ u)
+type-one p q e =
+    let h = sym (type-value p) ∙ ap typeValue e ∙ type-value q in
+    (type-text p ∙ ap typeText h ∙ sym (type-text q), h)
 
-pub no-mark : {b v : ℕ} {f : List ℕ} → ((b ≡ 82) ⊎ (b ≡ 84) → ⊥) → b ≢ 87 → b ≢ 69 → b ≡ head f → MarkField v f → ⊥
-no-mark i k l e (rx p) = i (inl (e ∙ ap head p))
-no-mark i k l e (tx p) = i (inr (e ∙ ap head p))
-no-mark i k l e (warng p) = k (e ∙ ap head p)
-no-mark i k l e (error p) = l (e ∙ ap head p)
+pub no-type : {b v : ℕ} {f : List ℕ} → ((b ≡ 82) ⊎ (b ≡ 84) → ⊥) → b ≢ 87 → b ≢ 69 → b ≡ head f → TypeField v f → ⊥
+no-type i k l e (rx p) = i (inl (e ∙ ap head p))
+no-type i k l e (tx p) = i (inr (e ∙ ap head p))
+no-type i k l e (warng p) = k (e ∙ ap head p)
+no-type i k l e (error p) = l (e ∙ ap head p)
 
--- The two marks that go on with `x` are told by one number.
-pub short : {b v : ℕ} → (b ≡ 82 → v ≡ 0) → (b ≡ 84 → v ≡ 1) → (b ≡ 82) ⊎ (b ≡ 84) → MarkField v (b ∷ 120 ∷ [])
+-- The two types that go on with `x` are told by one number.
+pub short : {b v : ℕ} → (b ≡ 82 → v ≡ 0) → (b ≡ 84 → v ≡ 1) → (b ≡ 82) ⊎ (b ≡ 84) → TypeField v (b ∷ 120 ∷ [])
 short f g (inl e) = rw (f e) (rx (ap (λ (x : ℕ). x ∷ 120 ∷ []) e))
 short f g (inr e) = rw (g e) (tx (ap (λ (x : ℕ). x ∷ 120 ∷ []) e))
 
--- The reader of the one mark that starts with this byte reads marks.
-pub mark-takes : {w u : List ℕ} {at k : ℕ} {s : Scan} → Starts w at → MarkField k (getD w at 0 ∷ u)
-    → Takes (λ v f. (f ≡ getD w at 0 ∷ u) × (v ≡ k)) w at s → Takes MarkField w at s
-mark-takes r m (taken a e p) = taken a e (rw (p .0, p .1) m)
-mark-takes r m (none-taken z n) = none-taken z (λ f rest a v p. n f rest a v (mark-one p m (sym (first-is r a))))
+-- The reader of the one type that starts with this byte reads types.
+pub type-takes : {w u : List ℕ} {at k : ℕ} {s : Scan} → Starts w at → TypeField k (getD w at 0 ∷ u)
+    → Takes (λ v f. (f ≡ getD w at 0 ∷ u) × (v ≡ k)) w at s → Takes TypeField w at s
+type-takes r m (taken a e p) = taken a e (rw (p .0, p .1) m)
+type-takes r m (none-taken z n) = none-taken z (λ f rest a v p. n f rest a v (type-one p m (sym (first-is r a))))
 
 -- The bytes from `at` up to i are capitals, and the line goes on behind them.
 pub record Capitals (w : List ℕ) (at i : ℕ) : Type 0 where

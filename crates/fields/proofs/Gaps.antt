@@ -9,15 +9,15 @@ use lib.ListN.{length, getD, drop}
 use lib.Seq.{slice, slice-empty, drop-cons, length-slice}
 use Rattle.base.proofs.Lists.{slice-snoc}
 use Rattle.fields.specs.Runs.{All, empty, more, halt}
-use Rattle.fields.specs.Window.{Lined, Skipped}
-use Rattle.fields.proofs.Parts.{Blank}
+use Rattle.fields.specs.inner.Window.{Lined, Skipped}
+use Rattle.fields.proofs.Parts.{IsBlank}
 use Rattle.fields.proofs.Runs.{cut, all-append}
 use Rattle.fields.proofs.Window.{inside, slice-drop, next-lined}
 
 -- The bytes passed are blanks.
 pub record Blanks (w : List ℕ) (at a : ℕ) : Type 0 where
   pub from : at ≤ a
-  pub blanks : All Blank (slice at a w)
+  pub blanks : All IsBlank (slice at a w)
   pub lined : Lined (drop a w)
 
 pub no-blank : {w : List ℕ} {at : ℕ} → Lined (drop at w) → Blanks w at at

@@ -5,12 +5,12 @@ use mathlib.Core.List.{List, [], _∷_, _++_}
 use native.Mathlib.Omega.{arith}
 use lib.ListN.{length}
 use Rattle.fields.specs.Runs.{All, empty, more, Stops}
-use Rattle.fields.specs.Parted.{NoBlank, Parted, none, blank, field}
+use Rattle.fields.specs.Parted.{NoBlank, Parted, none, blank-first, field}
 use Rattle.fields.proofs.Runs.{cut}
 
 -- A blank.
-abbrev pub Blank : ℕ → Type 0
-Blank b = b ≡ 32
+abbrev pub IsBlank : ℕ → Type 0
+IsBlank b = b ≡ 32
 
 not-blank : {b : ℕ} {f s t : List ℕ} → All NoBlank (b ∷ f) → 32 ∷ s ≡ b ∷ t → ⊥
 not-blank (more n f) e = n (cc)
@@ -21,24 +21,24 @@ not-nil e = let z : _≡_ {A = ℕ} 0 1 = cc in omega arith
 pub parted-one : {fs gs : List (List ℕ)} {s : List ℕ} → Parted fs s → Parted gs s → fs ≡ gs
 parted-one none none = refl
 parted-one none (field f xs e q) = absurd (not-nil e)
-parted-one (blank p) (blank q) = parted-one p q
-parted-one (blank p) (field f xs e q) = absurd (not-blank f e)
+parted-one (blank-first p) (blank-first q) = parted-one p q
+parted-one (blank-first p) (field f xs e q) = absurd (not-blank f e)
 parted-one (field f xs e p) none = absurd (not-nil e)
-parted-one (field f xs e p) (blank q) = absurd (not-blank f e)
+parted-one (field f xs e p) (blank-first q) = absurd (not-blank f e)
 parted-one (field f xs e p) (field g ys d q) =
     let r = cut f g xs ys (sym e ∙ d) in
     cc (r .0, parted-one p (rw (← (r .1)) at q))
 
 unblank : {fs : List (List ℕ)} {s : List ℕ} → Parted fs (32 ∷ s) → Parted fs s
-unblank (blank p) = p
+unblank (blank-first p) = p
 unblank (field f xs e p) = absurd (not-blank f e)
 
 -- blanks in front change no field
-pub blanks : {fs : List (List ℕ)} {f s : List ℕ} → All Blank f → Parted fs s → Parted fs (f ++ s)
+pub blanks : {fs : List (List ℕ)} {f s : List ℕ} → All IsBlank f → Parted fs s → Parted fs (f ++ s)
 blanks empty p = p
-blanks (more e f) p = rw e (blank (blanks f p))
+blanks (more e f) p = rw e (blank-first (blanks f p))
 
-pub unblanks : {fs : List (List ℕ)} {f : List ℕ} (s : List ℕ) → All Blank f → Parted fs (f ++ s) → Parted fs s
+pub unblanks : {fs : List (List ℕ)} {f : List ℕ} (s : List ℕ) → All IsBlank f → Parted fs (f ++ s) → Parted fs s
 unblanks s empty p = p
 unblanks s (more e f) p = unblanks s f (unblank (rw e at p))
 
@@ -55,7 +55,7 @@ pub first-only : {fs : List (List ℕ)} {f s t : List ℕ} → 0 < length f → 
     → (gs : List (List ℕ)) × (fs ≡ f ∷ gs) × Parted gs s
 first-only n empty xs p e = absurd (omega arith)
 first-only n (more b f) xs none e = absurd (not-nil e)
-first-only n (more b f) xs (blank p) e = absurd (not-blank (more b f) e)
+first-only n (more b f) xs (blank-first p) e = absurd (not-blank (more b f) e)
 first-only n (more b f) xs (field {fs = gs} g ys d q) e =
     let r = cut g (more b f) ys xs (sym d ∙ e) in
     (gs, cc (r .0), rw (r .1) at q)

@@ -11,7 +11,7 @@ use Rattle.digits.specs.Digits.{none as no-digits, more as digits-more}
 use Rattle.digits.proofs.Strings.{cases}
 use Rattle.fields.specs.declared.Scan.{Scan}
 use Rattle.fields.specs.Runs.{All, empty, more, Stops, halt}
-use Rattle.fields.specs.Window.{Solid, Scanned}
+use Rattle.fields.specs.inner.Window.{Solid, Scanned}
 use Rattle.fields.proofs.Runs.{cut, longest}
 use Rattle.fields.proofs.Window.{inside, slice-drop}
 

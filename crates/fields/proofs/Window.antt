@@ -9,7 +9,7 @@ use native.Mathlib.Decide.{decLt}
 use lib.ListN.{length, getD, take, drop, length-append, length-drop, take-append-drop, drop-of-length-le}
 use lib.Seq.{slice, drop-cons, drop-append-le, length-take-le, length-slice}
 use Rattle.fields.specs.Runs.{All, more, Stops, over, halt}
-use Rattle.fields.specs.Window.{NoEnd, Solid, LineOf, Lined, FieldAt}
+use Rattle.fields.specs.inner.Window.{NoEnd, Solid, LineBeforeCr, Lined, FieldAt}
 use Rattle.fields.proofs.Runs.{cut}
 
 -- A field ends before this byte.
@@ -29,14 +29,14 @@ pub inside : (w : List ℕ) (at : ℕ) → Lined (drop at w) → at < length w
 inside w at l = omega (arith, ap length (l .is .ended) ∙ length-append (l .line) (13 ∷ l .is .rest), length-drop at w)
 
 -- The line behind a byte of it.
-pub next-line : (w : List ℕ) (at : ℕ) {line : List ℕ} → LineOf line (drop at w) → getD w at 0 ≢ 13
-    → (l : List ℕ) × (line ≡ getD w at 0 ∷ l) × LineOf l (drop (at + 1) w)
+pub next-line : (w : List ℕ) (at : ℕ) {line : List ℕ} → LineBeforeCr line (drop at w) → getD w at 0 ≢ 13
+    → (l : List ℕ) × (line ≡ getD w at 0 ∷ l) × LineBeforeCr l (drop (at + 1) w)
 next-line w at {line} l n = go line l
   where
-    here : (line : List ℕ) → LineOf line (drop at w) → at < length w
+    here : (line : List ℕ) → LineBeforeCr line (drop at w) → at < length w
     here line l = inside w at (record { line = line; is = l })
 
-    go : (line : List ℕ) → LineOf line (drop at w) → (l : List ℕ) × (line ≡ getD w at 0 ∷ l) × LineOf l (drop (at + 1) w)
+    go : (line : List ℕ) → LineBeforeCr line (drop at w) → (l : List ℕ) × (line ≡ getD w at 0 ∷ l) × LineBeforeCr l (drop (at + 1) w)
     go [] l =
         let e : getD w at 0 ∷ drop (suc at) w ≡ 13 ∷ l .rest = sym (drop-cons w at 0 (here [] l)) ∙ l .ended in
         let h : getD w at 0 ≡ 13 = cc in

@@ -42,17 +42,17 @@ pub record BusField (bus : ℕ) (f : List ℕ) : Type 0 where
   pub high : bus ≤ 16
 
 -- `Rx`, `Tx`, `Warng` and `Error`, spelled exactly.
-abbrev pub markRx : List ℕ
-markRx = text "Rx"
+abbrev pub typeRx : List ℕ
+typeRx = text "Rx"
 
-abbrev pub markTx : List ℕ
-markTx = text "Tx"
+abbrev pub typeTx : List ℕ
+typeTx = text "Tx"
 
-abbrev pub markWarng : List ℕ
-markWarng = text "Warng"
+abbrev pub typeWarng : List ℕ
+typeWarng = text "Warng"
 
-abbrev pub markError : List ℕ
-markError = text "Error"
+abbrev pub typeError : List ℕ
+typeError = text "Error"
 
 -- The one field of a remote frame's data: `RTR`.
 abbrev pub remoteText : List ℕ

@@ -1,4 +1,4 @@
 pub mod Runs
 pub mod Parted
 pub mod Columns
-pub mod Window
+pub mod inner

@@ -8,12 +8,12 @@ ghost use mathlib.Core.Logic.{_⊎_};
 ghost use mathlib.Core.List.{[], _∷_};
 ghost use Prim.Native.Nat.{_<_};
 ghost use lib.ListN.{length, getD, drop};
-ghost use Rattle.base.specs.Decides.{Decides};
+ghost use Rattle.base.specs.inner.Decides.{Decides};
 ghost use Rattle.base.specs.Text.{text, blank, cr};
 ghost use Rattle.digits.specs.Digits.{DecimalDigit, HexDigit, Hex};
 ghost use Rattle.fields.specs.Runs.{All};
 ghost use Rattle.fields.specs.Columns.{NumberField, OffsetField, BusField, LengthField, Capital, remoteText};
-ghost use Rattle.fields.specs.Window.{windowBytes, Lined, Skipped, Solid, Starts, Scanned, Takes, HexField, MarkField};
+ghost use Rattle.fields.specs.inner.Window.{windowBytes, Lined, Skipped, Solid, Starts, Scanned, Takes, HexField, TypeField};
 
 // How many bytes a window has. A row is read from a window, behind a thin reference: over a slice each gap and each field would be a real
 // call with two numbers more.
@@ -218,8 +218,8 @@ pub fn bus_field(w: &[u8; WINDOW], at: usize) -> Scan
     }
 }
 
-// A mark that starts with this byte and goes on with `x`.
-fn short_mark(w: &[u8; WINDOW], at: usize, value: u64) -> Scan
+// A type that starts with this byte and goes on with `x`.
+fn short_type(w: &[u8; WINDOW], at: usize, value: u64) -> Scan
     requires { ⌜ Starts (now w) at ⌝ }
     ensures { λ s. ⌜ Takes (λ v f. (f ≡ getD (now (w .entry)) at 0 ∷ text "x") × (v ≡ value)) (now (w .entry)) at s ⌝ }
 {
@@ -233,8 +233,8 @@ fn short_mark(w: &[u8; WINDOW], at: usize, value: u64) -> Scan
     Scan { end: at + 2, value }
 }
 
-// A mark that starts with this byte and goes on with these four.
-fn long_mark(w: &[u8; WINDOW], at: usize, a: u8, b: u8, c: u8, d: u8, value: u64) -> Scan
+// A type that starts with this byte and goes on with these four.
+fn long_type(w: &[u8; WINDOW], at: usize, a: u8, b: u8, c: u8, d: u8, value: u64) -> Scan
     requires { ⌜ Starts (now w) at × Solid a × Solid b × Solid c × Solid d ⌝ }
     ensures { λ s. ⌜ Takes (λ v f. (f ≡ getD (now (w .entry)) at 0 ∷ a ∷ b ∷ c ∷ d ∷ []) × (v ≡ value)) (now (w .entry)) at s ⌝ }
 {
@@ -258,16 +258,16 @@ fn long_mark(w: &[u8; WINDOW], at: usize, a: u8, b: u8, c: u8, d: u8, value: u64
 }
 
 // `Rx`, `Tx`, `Warng` or `Error`. No branch tells `Rx` from `Tx`: a trace mixes the two.
-pub fn mark_field(w: &[u8; WINDOW], at: usize) -> Scan
+pub fn type_field(w: &[u8; WINDOW], at: usize) -> Scan
     requires { ⌜ Starts (now w) at ⌝ }
-    ensures { λ s. ⌜ Takes MarkField (now (w .entry)) at s ⌝ }
+    ensures { λ s. ⌜ Takes TypeField (now (w .entry)) at s ⌝ }
 {
     let bytes: &[u8] = w;
     let m = bytes[at];
     match m {
-        b'R' | b'T' => short_mark(w, at, wide((m - b'R') / 2)),
-        b'W' => long_mark(w, at, b'a', b'r', b'n', b'g', 2),
-        b'E' => long_mark(w, at, b'r', b'r', b'o', b'r', 3),
+        b'R' | b'T' => short_type(w, at, wide((m - b'R') / 2)),
+        b'W' => long_type(w, at, b'a', b'r', b'n', b'g', 2),
+        b'E' => long_type(w, at, b'r', b'r', b'o', b'r', 3),
         _ => none(),
     }
 }

@@ -17,8 +17,8 @@ use Rattle.fields.proofs.Window.{head-at}
 use Rattle.lines.specs.declared.StartTime.{StartTime}
 use Rattle.lines.specs.declared.StartTime.the-variants.{Ms, Not}
 use Rattle.lines.specs.Lines.{Inside, FirstLine, Blanks, VersionLine, startText, StartDigits, StartLine, NoDollar, nothing, other, Comment, DollarLine}
-use Rattle.lines.specs.Answer.{StartOr, VersionOr0, version, none}
-use Rattle.lines.specs.Parts.{Blank, Digit, Ran, Opened, OpenedOr0, Stands, StartOfDigits, Figures, FiguresOr0, figures, no-figures}
+use Rattle.lines.specs.inner.Answer.{StartOr, VersionOr0, version, none}
+use Rattle.lines.specs.inner.Parts.{IsBlank, Digit, Ran, Opened, OpenedOr0, StandsAt, StartOfDigits, Figures, FiguresOr0, figures, no-figures}
 use Rattle.lines.proofs.Scans.{run-one, split, at-head, behind, not-opened, opened-one, below-zero}
 use Rattle.row.specs.Versions.{versionText}
 
@@ -65,7 +65,7 @@ module _ {line : List ℕ} {at : ℕ} (o : Opened line at) where
   no-blank : at < length line → getD line at 0 ≢ 32
   no-blank h = go (o .stops) (at-head line at h refl)
     where
-      go : {s t : List ℕ} {b : ℕ} → Stops Blank s → s ≡ b ∷ t → b ≢ 32
+      go : {s t : List ℕ} {b : ℕ} → Stops IsBlank s → s ≡ b ∷ t → b ≢ 32
       go over e k = let z : _≡_ {A = ℕ} 0 1 = cc in omega arith
       go {b = b} (halt {b = c} n) e k = let q : c ≡ b = cc in n (q ∙ k)
 
@@ -96,10 +96,10 @@ module _ {line : List ℕ} {at : ℕ} (o : Opened line at) where
   version-tail : {v : ℕ} (l : VersionLine v line) → drop at line ≡ versionText v ++ l .after
   version-tail {v} l = sym (opened-one (versionText v ++ l .after) o (l .blanks) (halt {b = 36} (λ h. omega arith)) (l .bytes))
 
-  pub version-stands : {v : ℕ} → VersionLine v line → Stands fileText line at
+  pub version-stands : {v : ℕ} → VersionLine v line → StandsAt fileText line at
   version-stands {v} l = record { rest = (48 + v / 10) ∷ 46 ∷ (48 + v % 10) ∷ l .after; bytes = version-tail l }
 
-  module _ (p : Stands fileText line at) where
+  module _ (p : StandsAt fileText line at) where
     pub version-end : {v : ℕ} → VersionLine v line → VersionEnd v line (at + 13)
     version-end {v} l =
         let d : fileText ++ drop (at + 13) line ≡ versionText v ++ l .after = sym (behind p) ∙ version-tail l in
@@ -158,10 +158,10 @@ module _ {line : List ℕ} {at : ℕ} (o : Opened line at) where
       let s = startText ++ (l .day ++ (46 ∷ tail l)) in
       sym (opened-one s o (l .blanks) (halt {b = 36} (λ h. omega arith)) (l .bytes))
 
-  pub start-stands : {s : ℕ} → StartLine s line → Stands startText line at
+  pub start-stands : {s : ℕ} → StartLine s line → StandsAt startText line at
   start-stands l = record { rest = l .day ++ (46 ∷ tail l); bytes = start-tail l }
 
-  module _ (p : Stands startText line at) {point : ℕ} (r : Ran Digit line (at + 11) point) where
+  module _ (p : StandsAt startText line at) {point : ℕ} (r : Ran Digit line (at + 11) point) where
     start-day : {s : ℕ} (l : StartLine s line) → (l .day ≡ slice (at + 11) point line) × (drop point line ≡ 46 ∷ tail l)
     start-day l =
         let d : startText ++ drop (at + 11) line ≡ startText ++ (l .day ++ (46 ∷ tail l)) = sym (behind p) ∙ start-tail l in

@@ -12,7 +12,7 @@ use Rattle.fields.specs.Runs.{All, empty, more, Stops, over, halt}
 use Rattle.fields.proofs.Runs.{cut, all-map, all-append}
 use Rattle.fields.proofs.Window.{slice-drop}
 use Rattle.lines.specs.Lines.{Blanks}
-use Rattle.lines.specs.Parts.{Blank, Digit, Between, Ran, Opened, OpenedOr0, opened, none, Stands}
+use Rattle.lines.specs.inner.Parts.{IsBlank, Digit, Between, Ran, Opened, OpenedOr0, opened, none, StandsAt}
 
 -- What a loop over a run keeps: the bytes passed have P.
 pub record Passed (P : ℕ → Type 0) (s : List ℕ) (i e : ℕ) : Type 0 where
@@ -71,7 +71,7 @@ same-run {P} {Q} f g r = record { from = r .from; within = r .within; all = all-
     go over = over
     go (halt {b = b} n) = halt (λ q. n (g b q))
 
-pub blanks-ran : {s : List ℕ} {i e : ℕ} → Ran (Between 32 32) s i e → Ran Blank s i e
+pub blanks-ran : {s : List ℕ} {i e : ℕ} → Ran (Between 32 32) s i e → Ran IsBlank s i e
 blanks-ran = same-run (λ b p. omega arith) (λ b q. record { low = omega arith; high = omega arith })
 
 pub digits-ran : {s : List ℕ} {i e : ℕ} → Ran (Between 48 57) s i e → Ran Digit s i e
@@ -85,19 +85,19 @@ at-head s i h e = drop-cons s i 0 h ∙ rw (e, add-one)
 -- Bytes that stand at a place.
 module _ {t s : List ℕ} {at : ℕ} where
   -- what is behind them
-  pub behind : Stands t s at → drop at s ≡ t ++ drop (at + length t) s
+  pub behind : StandsAt t s at → drop at s ≡ t ++ drop (at + length t) s
   behind p =
       let d = ap (drop (length t)) (sym (p .bytes)) in
       let e : p .rest ≡ drop (at + length t) s = sym (drop-append-seam t (p .rest)) ∙ d ∙ drop-drop (length t) at s in
       p .bytes ∙ ap (λ (l : List ℕ). t ++ l) e
 
-  pub room : Stands t s at → at ≤ length s → at + length t ≤ length s
+  pub room : StandsAt t s at → at ≤ length s → at + length t ≤ length s
   room p h = omega (arith, ap length (p .bytes) ∙ length-append t (p .rest), length-drop at s)
 
-  pub byte-of : Stands t s at → (k : ℕ) → k < length t → getD s (at + k) 0 ≡ getD t k 0
+  pub byte-of : StandsAt t s at → (k : ℕ) → k < length t → getD s (at + k) 0 ≡ getD t k 0
   byte-of p k h = sym (getD-drop at s k 0) ∙ ap (λ (l : List ℕ). getD l k 0) (p .bytes) ∙ List·getD-append t (p .rest) 0 k h
 
-  pub all-stand : at + length t ≤ length s → ((k : ℕ) → k < length t → getD s (at + k) 0 ≡ getD t k 0) → Stands t s at
+  pub all-stand : at + length t ≤ length s → ((k : ℕ) → k < length t → getD s (at + k) 0 ≡ getD t k 0) → StandsAt t s at
   all-stand h f =
       let n = length t in
       let m : n ≤ length (drop at s) = omega (arith, length-drop at s) in
@@ -112,7 +112,7 @@ pub first-byte : {s t : List ℕ} {b : ℕ} → s ≡ b ∷ t → (0 < length s)
 first-byte e = (omega (arith, ap length e), ap (λ (l : List ℕ). getD l 0 0) e)
 
 -- The place behind `;` and blanks.
-pub opens : {line : List ℕ} {e : ℕ} → 0 < length line → getD line 0 0 ≡ 59 → Ran Blank line 1 e → Opened line e
+pub opens : {line : List ℕ} {e : ℕ} → 0 < length line → getD line 0 0 ≡ 59 → Ran IsBlank line 1 e → Opened line e
 opens {line} {e} h b r = record {
   low = r .from;
   within = r .within;
@@ -131,7 +131,7 @@ not-opened (opened o) e b = let l = o .low in omega arith
 not-opened {rest = rest} (none e f) z b = f rest b
 
 -- It is the only one.
-pub opened-one : {line before : List ℕ} {at : ℕ} (rest : List ℕ) → Opened line at → Blanks before → Stops Blank rest
+pub opened-one : {line before : List ℕ} {at : ℕ} (rest : List ℕ) → Opened line at → Blanks before → Stops IsBlank rest
     → line ≡ 59 ∷ (before ++ rest) → rest ≡ drop at line
 opened-one {line} {before} {at} rest o b s e =
     let d : 59 ∷ (before ++ rest) ≡ 59 ∷ (o .before ++ drop at line) = sym e ∙ o .bytes in

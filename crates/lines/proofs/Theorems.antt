@@ -20,8 +20,8 @@ use Rattle.lines.specs.declared.StartTime.the-variants as start-time
 use Rattle.lines.specs.declared.Remark.{Remark}
 use Rattle.lines.specs.declared.Remark.the-variants as remark
 use Rattle.lines.specs.Lines.{Inside, FirstLine, Blanks, VersionLine, startText, StartDigits, StartLine, NoDollar, nothing, other, Comment, DollarLine}
-use Rattle.lines.specs.Answer.{EndsAt, VersionOr0, version, none, StartOr, Remarks}
-use Rattle.lines.specs.Parts.{Blank}
+use Rattle.lines.specs.inner.Answer.{EndsAt, VersionOr0, version, none, StartOr, Remarks}
+use Rattle.lines.specs.inner.Parts.{IsBlank}
 use Rattle.lines.proofs.Lines.{cr-outside, lf-outside, point-stops, blanks-stop, digits-one}
 
 -- A text starts with one line.
@@ -47,7 +47,7 @@ return-alone {r = r} {b = b} rest a n p =
     n (cc)
 
 -- What stands behind `;` and blanks, if it starts with no blank, is the only such.
-behind-one : {line a b : List ℕ} (s t : List ℕ) → Blanks a → Blanks b → Stops Blank s → Stops Blank t
+behind-one : {line a b : List ℕ} (s t : List ℕ) → Blanks a → Blanks b → Stops IsBlank s → Stops IsBlank t
     → line ≡ 59 ∷ (a ++ s) → line ≡ 59 ∷ (b ++ t)
     → s ≡ t
 behind-one {line} {a} {b} s t p q h k d e =
@@ -56,7 +56,7 @@ behind-one {line} {a} {b} s t p q h k d e =
     cut p q h k g .1
 
 -- `$` is no blank.
-dollar-stops : {s t : List ℕ} → s ≡ 36 ∷ t → Stops Blank s
+dollar-stops : {s t : List ℕ} → s ≡ 36 ∷ t → Stops IsBlank s
 dollar-stops e = rw e (halt {b = 36} (λ h. omega arith))
 
 -- A line is a version line of one version.
@@ -86,7 +86,7 @@ pub not-both : {line : List ℕ} → Comment line → DollarLine line → ⊥
 not-both c d =
     go (c .free) (behind-one _ _ (c .blanks) (d .blanks) (no-blank (c .free)) (dollar-stops refl) (c .bytes) (d .bytes))
   where
-    no-blank : {s : List ℕ} → NoDollar s → Stops Blank s
+    no-blank : {s : List ℕ} → NoDollar s → Stops IsBlank s
     no-blank nothing = over
     no-blank (other m n) = halt m
 

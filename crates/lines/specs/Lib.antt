@@ -1,3 +1,2 @@
 pub mod Lines
-pub mod Answer
-pub mod Parts
+pub mod inner

@@ -8,10 +8,10 @@ use digits::read_padded;
 use row::is_version;
 ghost use Prim.Native.Nat.{_≤_};
 ghost use lib.ListN.{length};
-ghost use Rattle.base.specs.Decides.{Decides};
+ghost use Rattle.base.specs.inner.Decides.{Decides};
 ghost use Rattle.lines.specs.Lines.{Inside};
-ghost use Rattle.lines.specs.Answer.{EndsAt, VersionOr0, StartOr, Remarks};
-ghost use Rattle.lines.specs.Parts.{Between, FiguresOr0, Ran, OpenedOr0, Stands, StartOfDigits};
+ghost use Rattle.lines.specs.inner.Answer.{EndsAt, VersionOr0, StartOr, Remarks};
+ghost use Rattle.lines.specs.inner.Parts.{Between, FiguresOr0, Ran, OpenedOr0, StandsAt, StartOfDigits};
 
 // The most bytes of a line before its end.
 pub const LINE_LIMIT: usize = 250;
@@ -92,7 +92,7 @@ fn run_end(line: &[u8], at: usize, first: u8, last: u8) -> usize
 // Whether these bytes stand at a place.
 fn stands(line: &[u8], at: usize, text: &[u8]) -> bool
     requires { ⌜ at ≤ length (now line) ⌝ }
-    ensures { λ r. ⌜ Decides (Stands (now (text .entry)) (now (line .entry)) at) r ⌝ }
+    ensures { λ r. ⌜ Decides (StandsAt (now (text .entry)) (now (line .entry)) at) r ⌝ }
 {
     if line.len() - at < text.len() {
         return false;

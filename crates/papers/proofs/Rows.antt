@@ -15,8 +15,8 @@ use Rattle.digits.specs.Digits.{Hex}
 use Rattle.digits.specs.House.{glyphOf, fixed}
 use Rattle.digits.proofs.Theorems.{hex-spells, one-hex}
 use Rattle.fields.specs.Runs.{All, over, halt}
-use Rattle.fields.specs.Parted.{NoBlank, Parted, none, blank}
-use Rattle.fields.specs.Columns.{markRx, IdField, standard, long}
+use Rattle.fields.specs.Parted.{NoBlank, Parted, none, blank-first}
+use Rattle.fields.specs.Columns.{typeRx, IdField, standard, long}
 use Rattle.fields.proofs.Runs.{all-of}
 use Rattle.fields.proofs.Parts.{parted-one, first}
 use Rattle.record.specs.declared.Record.{Record}
@@ -24,7 +24,7 @@ use Rattle.record.specs.Record.{WellFormed}
 use Rattle.record.proofs.Frames.{frame-formed}
 use Rattle.row.specs.Versions.{is11}
 use Rattle.row.specs.Row
-use Rattle.papers.specs.Cases.{received}
+use Rattle.papers.specs.Cases.{received11}
 
 -- Each field has a byte, and none that is a blank or below; this antt computes.
 abbrev pub solid : ℕ → List (List ℕ) → Bool
@@ -47,20 +47,20 @@ parted i (f ∷ g ∷ fs) t =
     let b = every (λ j b. leb 33 b) 0 f in
     let u = both-left (both s b) (solid (suc i) (g ∷ fs)) t in
     let v = both-right (both s b) (solid (suc i) (g ∷ fs)) t in
-    first (leb→le 1 (length f) (both-left s b u)) (no-blank f (both-right s b u)) (halt (λ n. n refl)) (blank (parted (suc i) (g ∷ fs) v)) refl
+    first (leb→le 1 (length f) (both-left s b u)) (no-blank f (both-right s b u)) (halt (λ n. n refl)) (blank-first (parted (suc i) (g ∷ fs) v)) refl
 
 -- so that they are those of any row.
 pub fields-of : {v k : ℕ} {r : Record} (fs : List (List ℕ)) → T (solid 0 fs) → Row.Row v k r (joined fs) → Row.RowFields v k r fs
 fields-of {v} {k} {r} fs t w = subst (Row.RowFields v k r) (parted-one (w .parted) (parted 0 fs t)) (w .row)
 
-from-rx : {r : Record} {fs : List (List ℕ)} → Row.FromMark r (markRx ∷ fs) → Row.FrameId 0 r fs
+from-rx : {r : Record} {fs : List (List ℕ)} → Row.FromType r (typeRx ∷ fs) → Row.FrameId 0 r fs
 from-rx (Row.rx e i) = i
 from-rx (Row.tx e i) = let z : _≡_ {A = ℕ} 82 84 = cc in absurd (omega arith)
 from-rx (Row.warng e i) = absurd (omega (arith, ap length e))
 from-rx (Row.error e i) = absurd (omega (arith, ap length e))
 
 -- The fields of a received frame, from the ID on.
-pub frame : {k : ℕ} {r : Record} {n o : List ℕ} {fs : List (List ℕ)} → Row.RowFields 11 k r (n ∷ o ∷ markRx ∷ fs) → Row.FrameId 0 r fs
+pub frame : {k : ℕ} {r : Record} {n o : List ℕ} {fs : List (List ℕ)} → Row.RowFields 11 k r (n ∷ o ∷ typeRx ∷ fs) → Row.FrameId 0 r fs
 frame (Row.number a (Row.offset is11 b (Row.no-bus c m))) = from-rx m
 
 -- 0800 and 20000000 are no IDs.
@@ -121,6 +121,6 @@ row-0-byte r w = go (frame (fields-of (text "1)" ∷ text "0.0" ∷ text "Rx" �
 
 -- A received frame, of data or remote, is well formed.
 pub received-formed : (kind extended id len : ℕ) → kind ≤ 3 → extended ≤ 1 → (extended ≡ 0 → id ≤ 0x7FF) → id < 2 ^ 29 → len ≤ 8
-    → WellFormed (received kind extended id len)
+    → WellFormed (received11 kind extended id len)
 received-formed kind extended id len k x s i l =
     frame-formed _ k (omega arith) (omega arith) x s i l (omega arith) (zero-mod (256 ^ (8 - len))) (λ e. refl)

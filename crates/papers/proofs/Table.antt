@@ -14,16 +14,16 @@ use Rattle.record.specs.Bytes.{bytes}
 use Rattle.record.specs.Record.{WellFormed, number, Packs}
 use Rattle.record.proofs.Frames.{frame-formed}
 use Rattle.row.specs.Row.{Row}
-use Rattle.row.specs.House.{numberText, offsetText, busTexts, markText, idText, dataTexts, rowTexts, rowText}
+use Rattle.row.specs.House.{numberText, offsetText, busTexts, typeText, idText, dataTexts, rowTexts, rowText}
 use Rattle.row.specs.Versions.{v11, v12}
 use Rattle.row.proofs.Spelled.{row-spelled}
-use Rattle.papers.specs.Cases.{Holds, received, table, Every, none, more}
+use Rattle.papers.specs.Cases.{Holds, received11, table, Every, none, more}
 use Rattle.papers.proofs.Starts.{startLine, gives, gives-only}
 use Rattle.papers.proofs.Rows.{row-0800, row-20000000, row-0-byte, received-formed}
 
 -- A received frame is taken, as the house spells it.
 taken-row : (kind extended id len : ℕ) → kind ≤ 3 → extended ≤ 1 → (extended ≡ 0 → id ≤ 0x7FF) → id < 2 ^ 29 → len ≤ 8
-    → Row 11 1 (received kind extended id len) (rowText 11 1 (received kind extended id len))
+    → Row 11 1 (received11 kind extended id len) (rowText 11 1 (received11 kind extended id len))
 taken-row kind extended id len k x s i l = row-spelled (received-formed kind extended id len k x s i l) (v11 refl refl) (omega arith) (omega arith)
 
 -- Record 1.
@@ -48,7 +48,7 @@ late ms s = omega (arith, s .gives .limit, past-limit ms (gives-only 99999 10 99
 
 -- Every case holds.
 pub papers : Every Holds table
-unfolding bytes spaced joined numberText offsetText busTexts markText idText byteTexts dataTexts rowTexts decimalText spell fixed glyphOf
+unfolding bytes spaced joined numberText offsetText busTexts typeText idText byteTexts dataTexts rowTexts decimalText spell fixed glyphOf
 papers =
     more (gives 0 1 0 0 (omega arith) (omega arith) (omega arith) (omega arith) day-0 (omega arith))
     (more (gives 37704 10 5364870833 3257671952484 (omega arith) (omega arith) (omega arith) (omega arith) day-37704 (omega arith))

@@ -38,8 +38,8 @@ Holds (packed version line bytes) = (r : Record) × Row version 1 r (text line) 
 Holds (dated day date) = Date day date
 
 -- A frame received at offset 0 of version 1.1, all its data 0.
-abbrev pub received : ℕ → ℕ → ℕ → ℕ → Record
-received kind extended id len = record { offset = 0; bus = 0; kind = kind; extended = extended; id = id; len = len; «data» = 0 }
+abbrev pub received11 : ℕ → ℕ → ℕ → ℕ → Record
+received11 kind extended id len = record { offset = 0; bus = 0; kind = kind; extended = extended; id = id; len = len; «data» = 0 }
 
 abbrev pub table : List Case
 table =
@@ -52,19 +52,19 @@ table =
     -- 99999.9999999999 is 5
     ∷ no-start ";$STARTTIME=99999.9999999999"
     -- ID 07FF taken
-    ∷ taken 11 "1) 0.0 Rx 07FF 0" (received 0 0 0x7FF 0)
+    ∷ taken 11 "1) 0.0 Rx 07FF 0" (received11 0 0 0x7FF 0)
     -- 0800 refused
     ∷ refused 11 "1) 0.0 Rx 0800 0"
     -- 1FFFFFFF taken
-    ∷ taken 11 "1) 0.0 Rx 1FFFFFFF 0" (received 0 1 0x1FFFFFFF 0)
+    ∷ taken 11 "1) 0.0 Rx 1FFFFFFF 0" (received11 0 1 0x1FFFFFFF 0)
     -- 20000000 refused
     ∷ refused 11 "1) 0.0 Rx 20000000 0"
     -- length 0 with no bytes taken
-    ∷ taken 11 "1) 0.0 Rx 0123 0" (received 0 0 0x123 0)
+    ∷ taken 11 "1) 0.0 Rx 0123 0" (received11 0 0 0x123 0)
     -- length 0 with one byte refused
     ∷ refused 11 "1) 0.0 Rx 0123 0 0A"
     -- length 8 with `RTR` taken
-    ∷ taken 11 "1) 0.0 Rx 0123 8 RTR" (received 2 0 0x123 8)
+    ∷ taken 11 "1) 0.0 Rx 0123 8 RTR" (received11 2 0 0x123 8)
     -- record 1
     ∷ packed 12 "1) 0.000 1 Rx 0123 2 0A FF" (0 ∷ 0 ∷ 0 ∷ 0 ∷ 0 ∷ 0 ∷ 8 ∷ 0 ∷ 0 ∷ 4 ∷ 0x8C ∷ 0x82 ∷ 0xBF ∷ 0xC0 ∷ 0 ∷ 0 ∷ 0 ∷ 0 ∷ 0 ∷ 0 ∷ [])
     -- day 36585 is 29.02.2000

@@ -1,3 +1,4 @@
 pub mod Bytes
 pub mod Record
 pub mod Promise
+pub mod inner

@@ -22,14 +22,14 @@ abbrev pub fieldsOf : Record → List ℕ
 fieldsOf r = r .offset ∷ r .bus ∷ r .kind ∷ r .extended ∷ r .id ∷ r .len ∷ r .«data» ∷ []
 
 -- A refusal gives number and place, and zeros for all else.
-abbrev pub refused : ℕ → ℕ → List ℕ
-refused n p = n ∷ p ∷ 0 ∷ 0 ∷ 0 ∷ 0 ∷ 0 ∷ 0 ∷ 0 ∷ []
+abbrev pub refusalNumbers : ℕ → ℕ → List ℕ
+refusalNumbers n p = n ∷ p ∷ 0 ∷ 0 ∷ 0 ∷ 0 ∷ 0 ∷ 0 ∷ 0 ∷ []
 
 -- Number, place and the seven fields for each answer of `unpack`.
 abbrev pub unpackNumbers : Unpacked → List ℕ
 unpackNumbers (unpacked.Fields r) = 0 ∷ 0 ∷ fieldsOf r
-unpackNumbers unpacked.NotTwenty = refused 20 0
-unpackNumbers unpacked.Malformed = refused 23 1
+unpackNumbers unpacked.NotTwenty = refusalNumbers 20 0
+unpackNumbers unpacked.Malformed = refusalNumbers 23 1
 
 -- `pack` of r, into an output that held `before` and then holds `after`, gives the numbers a: 23 first, then 25, each with the output
 -- untouched; else the record's bytes, and behind them what was there.
@@ -41,5 +41,5 @@ pub data PackPromise (r : Record) (before a after : List ℕ) : Type 0 where
 -- `unpack` of s gives the numbers a: 20 if s is not twenty bytes, 23 if it is no packed record, else the record's fields.
 pub data UnpackPromise (s a : List ℕ) : Type 0 where
   fields : {r : Record} → Packs r s → a ≡ 0 ∷ 0 ∷ fieldsOf r → UnpackPromise s a
-  not-twenty : length s ≢ 20 → a ≡ refused 20 0 → UnpackPromise s a
-  malformed : length s ≡ 20 → ((r : Record) → Packs r s → ⊥) → a ≡ refused 23 1 → UnpackPromise s a
+  not-twenty : length s ≢ 20 → a ≡ refusalNumbers 20 0 → UnpackPromise s a
+  malformed : length s ≡ 20 → ((r : Record) → Packs r s → ⊥) → a ≡ refusalNumbers 23 1 → UnpackPromise s a

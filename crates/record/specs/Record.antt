@@ -3,7 +3,7 @@ use Prim.Native.Nat.{ℕ, _+_, _*_, _-_, _/_, _%_, _^_, _≤_, _<_}
 use mathlib.Core.Path.{_≡_}
 use mathlib.Core.Logic.{_⊎_}
 use mathlib.Core.List.{List}
-use lib.ListN.{take, drop, getD}
+use lib.ListN.{getD}
 use Rattle.base.specs.Limits.{offsetLimit}
 use Rattle.record.specs.declared.Record.{Record}
 use Rattle.record.specs.Bytes.{bytes}
@@ -79,8 +79,3 @@ number r =
 pub record Packs (r : Record) (s : List ℕ) : Type 0 where
   pub formed : WellFormed r
   pub packed : s ≡ bytes 20 (number r)
-
--- The twenty bytes of s at a position are some packed record.
-pub record PackedAt (s : List ℕ) (at : ℕ) : Type 0 where
-  pub this : Record
-  pub packs : Packs this (take 20 (drop at s))

@@ -6,9 +6,10 @@ ghost use mathlib.Core.Logic.{_⊎_};
 ghost use Prim.Native.Nat.{_+_, _-_, _*_, _/_, _%_, _^_, _≤_, _<_};
 ghost use lib.ListN.{length, take, drop};
 ghost use lib.Seq.{slice, sets};
-ghost use Rattle.base.specs.Decides.{Decides};
+ghost use Rattle.record.specs.inner.PackedAt.{PackedAt};
+ghost use Rattle.base.specs.inner.Decides.{Decides};
 ghost use Rattle.record.specs.Bytes.{bytes};
-ghost use Rattle.record.specs.Record.{recordOf, number, ErrorId, Position, Warning, ErrorFrame, WellFormed, Packs, PackedAt};
+ghost use Rattle.record.specs.Record.{recordOf, number, ErrorId, Position, Warning, ErrorFrame, WellFormed, Packs};
 ghost use Rattle.record.specs.Promise.{packNumbers, unpackNumbers, PackPromise, UnpackPromise};
 
 // The fields of a record, each wide enough to hold a wrong value. `data` is the eight data bytes, the first most

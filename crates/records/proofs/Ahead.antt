@@ -8,19 +8,19 @@ use lib.Seq.{drop-drop}
 use Rattle.record.specs.declared.Record.{Record}
 use Rattle.record.specs.Record.{WellFormed, Packs}
 use Rattle.record.proofs.OneRecord.{packs, one-record}
-use Rattle.records.specs.Records.{packed, Each, more, Holds}
+use Rattle.records.specs.Records.{packed, Each, more, PacksAll}
 use Rattle.records.proofs.Lists.{each-tail}
 use Rattle.records.proofs.Packing.{packed-length, first-packed, rest-packed}
-use Rattle.records.proofs.Records.{holds-one}
+use Rattle.records.proofs.Records.{packs-all-one}
 
 pub record Ahead (s : List ℕ) (at : ℕ) : Type 0 where
   pub before : List Record
   pub after : List Record
-  pub whole : Holds (before ++ after) s
+  pub whole : PacksAll (before ++ after) s
   pub formed : Each WellFormed after
   pub rest : drop at s ≡ packed after
 
-abbrev pub ahead : {rs : List Record} {s : List ℕ} → Holds rs s → Ahead s 0
+abbrev pub ahead : {rs : List Record} {s : List ℕ} → PacksAll rs s → Ahead s 0
 ahead {rs} h = record { before = []; after = rs; whole = h; formed = h .formed; rest = h .bytes }
 
 -- The record at the place is the first of those ahead.
@@ -67,5 +67,5 @@ module _ {s : List ℕ} {at : ℕ} (f : Ahead s at) where
       go [] e = refl
       go (q ∷ qs) e = absurd (omega (arith, length-drop at s, ap length e, packed-length (q ∷ qs)))
 
-  pub all-behind : {rs : List Record} → length s ≤ at → Holds rs s → rs ≡ f .before
-  all-behind h g = holds-one g (f .whole) ∙ ap (λ (x : List Record). f .before ++ x) (none-ahead h) ∙ append-nil (f .before)
+  pub all-behind : {rs : List Record} → length s ≤ at → PacksAll rs s → rs ≡ f .before
+  all-behind h g = packs-all-one g (f .whole) ∙ ap (λ (x : List Record). f .before ++ x) (none-ahead h) ∙ append-nil (f .before)

@@ -5,12 +5,13 @@ use mathlib.Core.List.{List, [], _∷_, _++_, append-assoc, append-nil}
 use native.Mathlib.Omega.{arith}
 use lib.ListN.{length, take, drop, length-append}
 use lib.Seq.{take-at, drop-at, drop-drop}
+use Rattle.record.specs.inner.PackedAt.{PackedAt}
 use Rattle.record.specs.declared.Record.{Record}
 use Rattle.record.specs.Bytes.{bytes}
-use Rattle.record.specs.Record.{number, WellFormed, PackedAt}
+use Rattle.record.specs.Record.{number, WellFormed}
 use Rattle.record.proofs.Bytes.{length-bytes}
 use Rattle.record.proofs.OneRecord.{packs, one-record}
-use Rattle.records.specs.Records.{packed, Each, none, more, Holds, FirstMalformed}
+use Rattle.records.specs.Records.{packed, Each, none, more, PacksAll, FirstMalformed}
 use Rattle.records.proofs.Packing.{packed-length, first-packed, rest-packed}
 
 -- Fronts of one length are one front, and the same stands behind them.
@@ -54,8 +55,8 @@ records-one x y f g (more {r = r} {rs = rs} w ws) (more {r = q} {rs = qs} v vs) 
     (cc (o, i .0), i .1)
 
 -- The bytes are one list of records at most.
-pub holds-one : {rs qs : List Record} {s : List ℕ} → Holds rs s → Holds qs s → rs ≡ qs
-holds-one h k =
+pub packs-all-one : {rs qs : List Record} {s : List ℕ} → PacksAll rs s → PacksAll qs s → rs ≡ qs
+packs-all-one h k =
     records-one [] [] nothing nothing (h .formed) (k .formed) (ap (λ (x : List ℕ). x ++ []) (sym (h .bytes) ∙ k .bytes)) .0
 
 -- The first malformed record stands at one place, and none does where the bytes are records.
@@ -64,7 +65,7 @@ malformed-one f g =
     let z = records-one (left f) (left g) (no-record f) (no-record g) (f .formed) (g .formed) (sym (f .bytes) ∙ g .bytes) in
     omega (arith, f .at, g .at, ap length (z .0))
 
-pub none-malformed : {rs : List Record} {s : List ℕ} {p : ℕ} → Holds rs s → FirstMalformed s p → ⊥
+pub none-malformed : {rs : List Record} {s : List ℕ} {p : ℕ} → PacksAll rs s → FirstMalformed s p → ⊥
 none-malformed {rs} h f =
     let z = records-one [] (left f) nothing (no-record f) (h .formed) (f .formed) (append-nil (packed rs) ∙ sym (h .bytes) ∙ f .bytes) in
     omega (arith, ap length (z .1), length-append (f .these) (f .after), f .twenty)
@@ -83,7 +84,7 @@ there (suc k) at e h (more {r = r} {rs = rs} w ws) =
     let p = there k (20 * k) refl (omega arith) ws in
     record { this = p .this; packs = rw (behind r rs at (20 * k) (omega arith)) (p .packs) }
 
-pub packed-there : {rs : List Record} {s : List ℕ} {at : ℕ} → Holds rs s → at % 20 ≡ 0 → at < length s → PackedAt s at
+pub packed-there : {rs : List Record} {s : List ℕ} {at : ℕ} → PacksAll rs s → at % 20 ≡ 0 → at < length s → PackedAt s at
 packed-there {rs} {s} {at} h z l =
     let e : at ≡ 20 * (at / 20) = omega arith in
     let k : at / 20 < length rs = omega (arith, packed-length rs, ap length (h .bytes)) in

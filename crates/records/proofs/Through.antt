@@ -6,7 +6,7 @@ use native.Mathlib.Omega.{arith}
 use lib.ListN.{length, take, drop, length-append, drop-of-length-le}
 use Rattle.record.specs.declared.Record.{Record}
 use Rattle.record.specs.Record.{WellFormed, Packs}
-use Rattle.records.specs.Records.{packed, packedLimit, Each, none, Whole, Holds, FirstMalformed}
+use Rattle.records.specs.Records.{packed, packedLimit, Each, none, Whole, PacksAll, FirstMalformed}
 use Rattle.records.proofs.Lists.{each-snoc}
 use Rattle.records.proofs.Packing.{packed-more, packed-none, twenty, next-record}
 
@@ -60,7 +60,7 @@ module _ {s : List ℕ} {at k : ℕ} (m : Through s at k) where
     within = h;
   }
 
-  pub all-through : length s ≤ at → Holds (m .records) s
+  pub all-through : length s ≤ at → PacksAll (m .records) s
   all-through h = record {
     formed = m .formed;
     bytes = m .front ∙ ap (λ (x : List ℕ). packed (m .records) ++ x) (drop-of-length-le s h) ∙ append-nil (packed (m .records));

@@ -1,3 +1,3 @@
 pub mod Records
-pub mod Entry
 pub mod StepBack
+pub mod inner

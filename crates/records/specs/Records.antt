@@ -27,7 +27,7 @@ pub record Whole (s : List ℕ) : Type 0 where
   pub few : length s ≤ packedLimit
 
 -- The bytes are these records, each well formed, packed one after the other.
-pub record Holds (rs : List Record) (s : List ℕ) : Type 0 where
+pub record PacksAll (rs : List Record) (s : List ℕ) : Type 0 where
   pub formed : Each WellFormed rs
   pub bytes : s ≡ packed rs
 

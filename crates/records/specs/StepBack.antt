@@ -1,6 +1,5 @@
 -- The first step back of records in order: the first whose offset is below its predecessor's.
-use Prim.Native.Nat.{ℕ, _+_, _≤_, _<_}
-use mathlib.Core.Path.{_≡_}
+use Prim.Native.Nat.{ℕ, _+_}
 use mathlib.Core.Bool.{true, false}
 use mathlib.Core.List.{List, [], _∷_}
 use lib.Dec.{ltb}
@@ -14,9 +13,3 @@ backFrom at before (r ∷ rs) = elim (ltb (r .offset) before) [ true ↦ at | fa
 unfoldable pub stepBack : List Record → ℕ
 stepBack [] = 0
 stepBack (r ∷ rs) = backFrom 2 (r .offset) rs
-
--- What `back_after` promises: the first step back with one record more, at position `row`, is the old one if there was one.
-pub record BackAfter (back row before offset b : ℕ) : Type 0 where
-  pub kept : 0 < back → b ≡ back
-  pub found : back ≡ 0 → offset < before → b ≡ row
-  pub none : back ≡ 0 → before ≤ offset → b ≡ 0

@@ -4,10 +4,10 @@ use record::Unpacked;
 use record::unpack;
 ghost use Prim.Native.Nat.{_+_, _≤_};
 ghost use lib.ListN.{length, take, drop};
-ghost use Rattle.base.specs.Decides.{Decides};
+ghost use Rattle.records.specs.inner.BackAfter.{BackAfter};
+ghost use Rattle.base.specs.inner.Decides.{Decides};
 ghost use Rattle.records.specs.Records.{Whole};
-ghost use Rattle.records.specs.Entry.{EntryOf};
-ghost use Rattle.records.specs.StepBack.{BackAfter};
+ghost use Rattle.records.specs.inner.Entry.{EntryOf};
 
 // The most bytes of packed records: twenty for each row that a trace can have, which are 999,999.
 pub const PACKED_LIMIT: usize = 19_999_980;

@@ -9,9 +9,9 @@ use lib.ListN.{length}
 use Rattle.digits.proofs.Theorems.{one-hex}
 use Rattle.fields.specs.declared.Scan.{Scan}
 use Rattle.fields.specs.Columns.{NumberField, OffsetField, BusField, IdField, standard, long, LengthField}
-use Rattle.fields.specs.Window.{HexField, MarkField}
-use Rattle.fields.specs.Window.{rx as mark-rx, tx as mark-tx, warng as mark-warng, error as mark-err}
-use Rattle.fields.proofs.Columns.{number-one, offset-one, bus-one, length-one, mark-one}
+use Rattle.fields.specs.inner.Window.{HexField, TypeField}
+use Rattle.fields.specs.inner.Window.{rx as type-rx, tx as type-tx, warng as type-warng, error as type-err}
+use Rattle.fields.proofs.Columns.{number-one, offset-one, bus-one, length-one, type-one}
 use Rattle.record.specs.declared.Record.{Record}
 use Rattle.row.specs.declared.Part.{Part}
 use Rattle.row.specs.declared.Step.{Step}
@@ -19,7 +19,7 @@ use Rattle.row.specs.declared.Stage.{Stage}
 use Rattle.row.specs.declared.Stage.the-variants as stage
 use Rattle.row.specs.Versions.{Version, fractionDigits, hasBus}
 use Rattle.row.specs.Row
-use Rattle.row.specs.Stages.{Steps, Continues, Good, known2, known4, continues}
+use Rattle.row.specs.inner.Stages.{Steps, Continues, Good, known2, known4, continuesAt}
 use Rattle.row.proofs.Moves.{Got, barred, went}
 
 -- The state behind a field.
@@ -35,10 +35,10 @@ pub after-offset : {v : ℕ} {r : Record} {f : List ℕ} {fs : List (List ℕ)} 
     → OffsetField (fractionDigits v) (r .offset) f × Row.FromBus r (hasBus v) fs
 after-offset (Row.offset v o b) = (o, b)
 
-without-bus : {r : Record} {fs : List (List ℕ)} → Row.FromBus r false fs → (r .bus ≡ 0) × Row.FromMark r fs
+without-bus : {r : Record} {fs : List (List ℕ)} → Row.FromBus r false fs → (r .bus ≡ 0) × Row.FromType r fs
 without-bus (Row.no-bus b m) = (b, m)
 
-pub after-bus : {r : Record} {f : List ℕ} {fs : List (List ℕ)} → Row.FromBus r true (f ∷ fs) → BusField (r .bus) f × Row.FromMark r fs
+pub after-bus : {r : Record} {f : List ℕ} {fs : List (List ℕ)} → Row.FromBus r true (f ∷ fs) → BusField (r .bus) f × Row.FromType r fs
 after-bus (Row.bus b m) = (b, m)
 
 pub after-id : {sent : ℕ} {r : Record} {f : List ℕ} {fs : List (List ℕ)} → Row.FrameId sent r (f ∷ fs) → IdField (r .extended) (r .id) f × Row.FrameLength sent r fs
@@ -62,101 +62,101 @@ module _ {w : List ℕ} {at : ℕ} (p : Part) {s : Scan} where
   module _ {v : ℕ} (is : Version v) (g : Got (OffsetField (fractionDigits v)) w at s) where
     -- an offset with no bus behind it, and one with a bus
     pub offset-went : hasBus v ≡ false → (q : Record) → q .offset ≡ s .value → q .bus ≡ 0 → q .«data» ≡ 0
-        → Steps w at (continues (stage.Offset v) p) (behind (s .end) stage.Mark 0 0 q)
+        → Steps w at (continuesAt (stage.Offset v) p) (behind (s .end) stage.TypeColumn 0 0 q)
     offset-went n q x y d =
         went _ g refl d
         (λ f fs r o e c. let a = after-offset c in let h = offset-one (a .0) o in let b = without-bus (rw n at (a .1)) in (cc (x, y, b .0), b .1))
         (λ f fs r o e c. let h : s .value ≡ r .offset = cc (x, c .0) in let b : r .bus ≡ 0 = cc (y, c .0) in Row.offset is (rw h at o) (rw n (Row.no-bus b (c .1))))
 
     pub offset-bus-went : hasBus v ≡ true → (q : Record) → q .offset ≡ s .value → q .«data» ≡ 0
-        → Steps w at (continues (stage.Offset v) p) (behind (s .end) stage.Bus 0 0 q)
+        → Steps w at (continuesAt (stage.Offset v) p) (behind (s .end) stage.Bus 0 0 q)
     offset-bus-went n q x d =
         went _ g refl d
         (λ f fs r o e c. let a = after-offset c in (offset-one (a .0) o ∙ sym x, rw n at (a .1)))
         (λ f fs r o e c. let h : s .value ≡ r .offset = sym x ∙ sym (c .0) in Row.offset is (rw h at o) (rw n (c .1)))
 
   pub bus-went : (q : Record) → q .offset ≡ p .r .offset → q .bus ≡ s .value → q .«data» ≡ 0 → Got BusField w at s
-      → Steps w at (continues stage.Bus p) (behind (s .end) stage.Mark 0 0 q)
+      → Steps w at (continuesAt stage.Bus p) (behind (s .end) stage.TypeColumn 0 0 q)
   bus-went q x y d g =
       went _ g refl d
       (λ f fs r b e c. let a = after-bus (c .1) in let h = bus-one (a .0) b in (cc (x, y, c .0), a .1))
       (λ f fs r b e c. let h : s .value ≡ r .bus = cc (y, c .0) in let o : r .offset ≡ p .r .offset = cc (x, c .0) in (o, Row.bus (rw h at b) (c .1)))
 
--- The mark.
+-- The type.
 
--- what follows each mark
-pub data AfterMark (r : Record) : ℕ → List (List ℕ) → Type 0 where
-  received : {fs : List (List ℕ)} → Row.FrameId 0 r fs → AfterMark r 0 fs
-  sent : {fs : List (List ℕ)} → Row.FrameId 1 r fs → AfterMark r 1 fs
-  warned : {fs : List (List ℕ)} → Row.WarningId r fs → AfterMark r 2 fs
-  failed : {fs : List (List ℕ)} → Row.ErrorIdField r fs → AfterMark r 3 fs
+-- what follows each type
+pub data AfterType (r : Record) : ℕ → List (List ℕ) → Type 0 where
+  received : {fs : List (List ℕ)} → Row.FrameId 0 r fs → AfterType r 0 fs
+  sent : {fs : List (List ℕ)} → Row.FrameId 1 r fs → AfterType r 1 fs
+  warned : {fs : List (List ℕ)} → Row.WarningId r fs → AfterType r 2 fs
+  failed : {fs : List (List ℕ)} → Row.ErrorIdField r fs → AfterType r 3 fs
 
-pub mark-of : {r : Record} {f : List ℕ} {fs : List (List ℕ)} → Row.FromMark r (f ∷ fs) → (v : ℕ) × MarkField v f × AfterMark r v fs
-mark-of (Row.rx e h) = (0, mark-rx e, received h)
-mark-of (Row.tx e h) = (1, mark-tx e, sent h)
-mark-of (Row.warng e h) = (2, mark-warng e, warned h)
-mark-of (Row.error e h) = (3, mark-err e, failed h)
+pub type-of : {r : Record} {f : List ℕ} {fs : List (List ℕ)} → Row.FromType r (f ∷ fs) → (v : ℕ) × TypeField v f × AfterType r v fs
+type-of (Row.rx e h) = (0, type-rx e, received h)
+type-of (Row.tx e h) = (1, type-tx e, sent h)
+type-of (Row.warng e h) = (2, type-warng e, warned h)
+type-of (Row.error e h) = (3, type-err e, failed h)
 
-pub some-mark : {r : Record} {f : List ℕ} {fs : List (List ℕ)} → Row.FromMark r (f ∷ fs) → (v : ℕ) × MarkField v f
-some-mark h = let x = mark-of h in (x .0, x .1)
+pub some-type : {r : Record} {f : List ℕ} {fs : List (List ℕ)} → Row.FromType r (f ∷ fs) → (v : ℕ) × TypeField v f
+some-type h = let x = type-of h in (x .0, x .1)
 
-pub after-mark : {v : ℕ} {r : Record} {f : List ℕ} {fs : List (List ℕ)} → MarkField v f → Row.FromMark r (f ∷ fs) → AfterMark r v fs
-after-mark m h = let x = mark-of h in rw (mark-one (x .1) m) at (x .2)
+pub after-type : {v : ℕ} {r : Record} {f : List ℕ} {fs : List (List ℕ)} → TypeField v f → Row.FromType r (f ∷ fs) → AfterType r v fs
+after-type m h = let x = type-of h in rw (type-one (x .1) m) at (x .2)
 
-mark-back : {v : ℕ} {r : Record} {f : List ℕ} {fs : List (List ℕ)} → MarkField v f → AfterMark r v fs → Row.FromMark r (f ∷ fs)
-mark-back (mark-rx e) (received h) = Row.rx e h
-mark-back (mark-tx e) (sent h) = Row.tx e h
-mark-back (mark-warng e) (warned h) = Row.warng e h
-mark-back (mark-err e) (failed h) = Row.error e h
+type-back : {v : ℕ} {r : Record} {f : List ℕ} {fs : List (List ℕ)} → TypeField v f → AfterType r v fs → Row.FromType r (f ∷ fs)
+type-back (type-rx e) (received h) = Row.rx e h
+type-back (type-tx e) (sent h) = Row.tx e h
+type-back (type-warng e) (warned h) = Row.warng e h
+type-back (type-err e) (failed h) = Row.error e h
 
-pub frame-of : {v : ℕ} {r : Record} {fs : List (List ℕ)} → v ≤ 1 → AfterMark r v fs → Row.FrameId v r fs
+pub frame-of : {v : ℕ} {r : Record} {fs : List (List ℕ)} → v ≤ 1 → AfterType r v fs → Row.FrameId v r fs
 frame-of l (received h) = h
 frame-of l (sent h) = h
 frame-of l (warned h) = absurd (omega arith)
 frame-of l (failed h) = absurd (omega arith)
 
-of-frame : {r : Record} {fs : List (List ℕ)} (v : ℕ) → v ≤ 1 → Row.FrameId v r fs → AfterMark r v fs
+of-frame : {r : Record} {fs : List (List ℕ)} (v : ℕ) → v ≤ 1 → Row.FrameId v r fs → AfterType r v fs
 of-frame zero l h = received h
 of-frame (suc zero) l h = sent h
 of-frame (suc (suc v)) l h = absurd (omega arith)
 
-pub warning-of : {v : ℕ} {r : Record} {fs : List (List ℕ)} → v ≡ 2 → AfterMark r v fs → Row.WarningId r fs
+pub warning-of : {v : ℕ} {r : Record} {fs : List (List ℕ)} → v ≡ 2 → AfterType r v fs → Row.WarningId r fs
 warning-of l (received h) = absurd (omega arith)
 warning-of l (sent h) = absurd (omega arith)
 warning-of l (warned h) = h
 warning-of l (failed h) = absurd (omega arith)
 
-pub error-of : {v : ℕ} {r : Record} {fs : List (List ℕ)} → 2 < v → AfterMark r v fs → Row.ErrorIdField r fs
+pub error-of : {v : ℕ} {r : Record} {fs : List (List ℕ)} → 2 < v → AfterType r v fs → Row.ErrorIdField r fs
 error-of l (received h) = absurd (omega arith)
 error-of l (sent h) = absurd (omega arith)
 error-of l (warned h) = absurd (omega arith)
 error-of l (failed h) = h
 
-of-error : {v : ℕ} {r : Record} {f : List ℕ} {fs : List (List ℕ)} → 2 < v → MarkField v f → Row.ErrorIdField r fs → AfterMark r v fs
-of-error l (mark-rx e) h = absurd (omega arith)
-of-error l (mark-tx e) h = absurd (omega arith)
-of-error l (mark-warng e) h = absurd (omega arith)
-of-error l (mark-err e) h = failed h
+of-error : {v : ℕ} {r : Record} {f : List ℕ} {fs : List (List ℕ)} → 2 < v → TypeField v f → Row.ErrorIdField r fs → AfterType r v fs
+of-error l (type-rx e) h = absurd (omega arith)
+of-error l (type-tx e) h = absurd (omega arith)
+of-error l (type-warng e) h = absurd (omega arith)
+of-error l (type-err e) h = failed h
 
-module _ {w : List ℕ} {at : ℕ} (p : Part) {s : Scan} (g : Got MarkField w at s) where
-  pub mark-frame : (q : Record) → s .value ≤ 1 → known2 q ≡ known2 (p .r) → q .kind ≡ s .value → q .«data» ≡ 0
-      → Steps w at (continues stage.Mark p) (behind (s .end) stage.Id 0 0 q)
-  mark-frame q l x k d =
+module _ {w : List ℕ} {at : ℕ} (p : Part) {s : Scan} (g : Got TypeField w at s) where
+  pub type-frame : (q : Record) → s .value ≤ 1 → known2 q ≡ known2 (p .r) → q .kind ≡ s .value → q .«data» ≡ 0
+      → Steps w at (continuesAt stage.TypeColumn p) (behind (s .end) stage.Id 0 0 q)
+  type-frame q l x k d =
       went _ g refl (omega arith, d)
-      (λ f fs r m e c. (c .0 ∙ sym x, rw (← k) at (frame-of l (after-mark m (c .1)))))
-      (λ f fs r m e c. (c .0 ∙ x, mark-back m (of-frame (s .value) l (rw k at (c .1)))))
+      (λ f fs r m e c. (c .0 ∙ sym x, rw (← k) at (frame-of l (after-type m (c .1)))))
+      (λ f fs r m e c. (c .0 ∙ x, type-back m (of-frame (s .value) l (rw k at (c .1)))))
 
-  pub mark-warning : s .value ≡ 2 → p .r .«data» ≡ 0 → Steps w at (continues stage.Mark p) (behind (s .end) stage.WarningId 0 0 (p .r))
-  mark-warning l d =
+  pub type-warning : s .value ≡ 2 → p .r .«data» ≡ 0 → Steps w at (continuesAt stage.TypeColumn p) (behind (s .end) stage.WarningId 0 0 (p .r))
+  type-warning l d =
       went _ g refl d
-      (λ f fs r m e c. (c .0, warning-of l (after-mark m (c .1))))
-      (λ f fs r m e c. (c .0, mark-back m (rw (← l) at (warned (c .1)))))
+      (λ f fs r m e c. (c .0, warning-of l (after-type m (c .1))))
+      (λ f fs r m e c. (c .0, type-back m (rw (← l) at (warned (c .1)))))
 
-  pub mark-error : 2 < s .value → p .r .«data» ≡ 0 → Steps w at (continues stage.Mark p) (behind (s .end) stage.ErrorId 0 0 (p .r))
-  mark-error l d =
+  pub type-error : 2 < s .value → p .r .«data» ≡ 0 → Steps w at (continuesAt stage.TypeColumn p) (behind (s .end) stage.ErrorId 0 0 (p .r))
+  type-error l d =
       went _ g refl d
-      (λ f fs r m e c. (c .0, error-of l (after-mark m (c .1))))
-      (λ f fs r m e c. (c .0, mark-back m (of-error l m (c .1))))
+      (λ f fs r m e c. (c .0, error-of l (after-type m (c .1))))
+      (λ f fs r m e c. (c .0, type-back m (of-error l m (c .1))))
 
 -- The ID of a frame.
 
@@ -176,7 +176,7 @@ some-id {i = i} (long e k l) = let n = k .width in (i, record { spelled = rw (�
 module _ {w : List ℕ} {at : ℕ} (p : Part) {s : Scan} (g : Got HexField w at s) where
   -- no ID has this width and value
   pub id-barred : (t : Step) → t .at ≡ 0 → (s .end - at ≡ 4 → s .value ≤ 0x7FF → ⊥) → (s .end - at ≡ 8 → s .value ≤ 0x1FFFFFFF → ⊥)
-      → Steps w at (continues stage.Id p) t
+      → Steps w at (continuesAt stage.Id p) t
   id-barred t z a b = barred t g z (λ f fs r h e c. go e (form h (after-id (c .1) .0) .1))
     where
       go : {n x : ℕ} → s .end ≡ at + n → Form (s .value) n x → ⊥
@@ -184,7 +184,7 @@ module _ {w : List ℕ} {at : ℕ} (p : Part) {s : Scan} (g : Got HexField w at 
       go e (eight n x l) = b (omega arith) l
 
   pub id-went : (q : Record) → p .r .kind ≤ 1 → known2 q ≡ known2 (p .r) → q .id ≡ s .value → q .kind ≡ p .r .kind → q .«data» ≡ 0
-      → Form (s .value) (s .end - at) (q .extended) → Steps w at (continues stage.Id p) (behind (s .end) stage.Length 0 0 q)
+      → Form (s .value) (s .end - at) (q .extended) → Steps w at (continuesAt stage.Id p) (behind (s .end) stage.Length 0 0 q)
   id-went q l x i k d o =
       went _ g refl (rw k l, d)
       (λ f fs r h e c. let a = after-id (c .1) in let z = form h (a .0) in
@@ -210,7 +210,7 @@ module _ {w : List ℕ} {at : ℕ} (p : Part) {s : Scan} (g : Got HexField w at 
 
 module _ {w : List ℕ} {at : ℕ} (p : Part) {s : Scan} where
   pub length-went : (q : Record) → p .r .kind ≤ 1 → known4 q ≡ known4 (p .r) → q .len ≡ s .value → q .kind ≡ p .r .kind → q .«data» ≡ 0
-      → Got LengthField w at s → Steps w at (continues stage.Length p) (behind (s .end) stage.Data (s .value) (256 ^ 7) q)
+      → Got LengthField w at s → Steps w at (continuesAt stage.Length p) (behind (s .end) stage.Data (s .value) (256 ^ 7) q)
   length-went q l x n k d g =
       went _ g refl (rw k l, d, sym n, refl)
       (λ f fs r h e c. let a = after-length (c .1) in let z = length-one (a .0) h in (cc (c .0, x, n, z), rw (← k) at (a .1)))

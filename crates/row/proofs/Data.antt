@@ -11,14 +11,14 @@ use Rattle.digits.proofs.Theorems.{one-hex, hex-below}
 use Rattle.fields.specs.declared.Scan.{Scan}
 use Rattle.fields.specs.Columns.{Capital, remoteText}
 use Rattle.fields.specs.Runs.{All}
-use Rattle.fields.specs.Window.{Takes}
+use Rattle.fields.specs.inner.Window.{Takes}
 use Rattle.record.specs.declared.Record.{Record}
 use Rattle.row.specs.declared.Part.{Part}
 use Rattle.row.specs.declared.Step.{Step}
 use Rattle.row.specs.declared.Stage.{Stage}
 use Rattle.row.specs.declared.Stage.the-variants as stage
 use Rattle.row.specs.Row
-use Rattle.row.specs.Stages.{Steps, Byted, no-byte, one-byte, Gathers, plus, known5, continues, Continues, good, Good, moved, stuck}
+use Rattle.row.specs.inner.Stages.{Steps, Byted, no-byte, one-byte, Gathers, plus, known5, continuesAt, Continues, goodAt, Good, moved, stuck}
 use Rattle.row.proofs.Moves.{Got, refused, went, none-there}
 use Rattle.row.proofs.Columns.{behind}
 
@@ -86,16 +86,16 @@ record Gathering (Then : List (List ℕ) → Type 0) (next : Stage) : Type 0 whe
 
 frames : Gathering Row.Nothing stage.Bytes
 frames = record {
-  into = λ q fs r e c. subst (λ (x : Stage). continues x q fs r) (sym e) c;
-  out = λ q fs r e c. subst (λ (x : Stage). continues x q fs r) e c;
-  fine = λ q e g. subst (λ (x : Stage). good x q) (sym e) g;
+  into = λ q fs r e c. subst (λ (x : Stage). continuesAt x q fs r) (sym e) c;
+  out = λ q fs r e c. subst (λ (x : Stage). continuesAt x q fs r) e c;
+  fine = λ q e g. subst (λ (x : Stage). goodAt x q) (sym e) g;
 }
 
 warnings : Gathering Row.Words stage.WarningBytes
 warnings = record {
-  into = λ q fs r e c. subst (λ (x : Stage). continues x q fs r) (sym e) c;
-  out = λ q fs r e c. subst (λ (x : Stage). continues x q fs r) e c;
-  fine = λ q e g. subst (λ (x : Stage). good x q) (sym e) g;
+  into = λ q fs r e c. subst (λ (x : Stage). continuesAt x q fs r) (sym e) c;
+  out = λ q fs r e c. subst (λ (x : Stage). continuesAt x q fs r) e c;
+  fine = λ q e g. subst (λ (x : Stage). goodAt x q) (sym e) g;
 }
 
 module _ {w : List ℕ} {at : ℕ} (p : Part) (t : Step) where
@@ -109,13 +109,13 @@ module _ {w : List ℕ} {at : ℕ} (p : Part) (t : Step) where
       moved a e (y .fine (t .part) s (rw q (byte-good Then next p n h g))) (λ fs r c. y .into (t .part) fs r s (rw q (byte-onto Then next p n h fs r c)))
       (λ fs r c. byte-back Then next p n h fs r (rw q at (y .out (t .part) fs r s c)))
 
-  pub bytes-went : p .left ≢ 0 → good stage.Bytes p → Byted w at stage.Bytes p t → Steps w at (continues stage.Bytes p) t
+  pub bytes-went : p .left ≢ 0 → goodAt stage.Bytes p → Byted w at stage.Bytes p t → Steps w at (continuesAt stage.Bytes p) t
   bytes-went = gathered frames
 
-  pub bytes-barred : p .left ≡ 0 → t .at ≡ 0 → Steps w at (continues stage.Bytes p) t
+  pub bytes-barred : p .left ≡ 0 → t .at ≡ 0 → Steps w at (continuesAt stage.Bytes p) t
   bytes-barred n z = stuck z (λ f rest a fs r c. no-field (no-more (rw n at (c .bytes)) .0))
 
-  pub warning-bytes-went : p .left ≢ 0 → good stage.WarningBytes p → Byted w at stage.WarningBytes p t → Steps w at (continues stage.WarningBytes p) t
+  pub warning-bytes-went : p .left ≢ 0 → goodAt stage.WarningBytes p → Byted w at stage.WarningBytes p t → Steps w at (continuesAt stage.WarningBytes p) t
   warning-bytes-went = gathered warnings
 
 -- Words behind the bytes of a warning.
@@ -124,11 +124,11 @@ after-word : {f : List ℕ} {fs : List (List ℕ)} → Row.Words (f ∷ fs) → 
 after-word (Row.word a h) = (a, h)
 
 module _ {w : List ℕ} {at : ℕ} (p : Part) {s : Scan} (n : p .left ≡ 0) where
-  pub word-refused : (t : Step) → Takes (λ v f. All Capital f) w at s → s .end ≡ 0 → t .at ≡ 0 → Steps w at (continues stage.WarningBytes p) t
+  pub word-refused : (t : Step) → Takes (λ v f. All Capital f) w at s → s .end ≡ 0 → t .at ≡ 0 → Steps w at (continuesAt stage.WarningBytes p) t
   word-refused t a z e = refused t a z e (λ f fs r c. (0, after-word (no-more (rw n at (c .bytes)) .0) .0))
 
-  pub word-went : good stage.WarningBytes p → Got (λ v f. All Capital f) w at s
-      → Steps w at (continues stage.WarningBytes p) (behind (s .end) stage.WarningBytes 0 (p .place) (p .r))
+  pub word-went : goodAt stage.WarningBytes p → Got (λ v f. All Capital f) w at s
+      → Steps w at (continuesAt stage.WarningBytes p) (behind (s .end) stage.WarningBytes 0 (p .place) (p .r))
   word-went d g =
       went _ g refl d
       (λ f fs r a e c. let x = no-more (rw n at (c .bytes)) in
@@ -155,9 +155,9 @@ remote-of (Row.remote k d _) e = (k, d, Row.nothing)
 of-remote : {sent : ℕ} {r : Record} {f : List ℕ} {fs : List (List ℕ)} → r .kind ≡ 2 + sent → r .«data» ≡ 0 → f ≡ remoteText → Row.Nothing fs → Row.FrameData sent r (f ∷ fs)
 of-remote k d e Row.nothing = Row.remote k d e
 
-module _ {w : List ℕ} {at : ℕ} (p : Part) (g : good stage.Data p) where
+module _ {w : List ℕ} {at : ℕ} (p : Part) (g : goodAt stage.Data p) where
   pub remote-went : {s : Scan} (q : Record) → q .kind ≡ p .r .kind + 2 → known5 q ≡ known5 (p .r) → q .«data» ≡ 0 → Got (λ v f. f ≡ remoteText) w at s
-      → Steps w at (continues stage.Data p) (behind (s .end) stage.Bytes 0 0 q)
+      → Steps w at (continuesAt stage.Data p) (behind (s .end) stage.Bytes 0 0 q)
   remote-went q k x d a =
       went _ a refl (omega arith)
       (λ f fs r e _ c. let y = remote-of (c .1) e in
@@ -168,28 +168,28 @@ module _ {w : List ℕ} {at : ℕ} (p : Part) (g : good stage.Data p) where
       (cc (c .known, x), of-remote (omega arith) (omega (arith, c .total, y .1)) e (y .0)))
 
   pub data-barred : {s : Scan} (t : Step) → Takes (λ v f. f ≡ remoteText) w at s → s .end ≡ 0 → p .left ≡ 0 → t .at ≡ 0
-      → Steps w at (continues stage.Data p) t
+      → Steps w at (continuesAt stage.Data p) t
   data-barred t a z n e =
       stuck e (λ f rest b fs r c. let y = bytes-of (c .1) (none-there a z f rest b 0) in
       let m : r .len ≡ 0 = cc (c .0, g .2, n) in
       no-field (no-more (rw m at (y .1)) .0))
 
   pub data-went : {s : Scan} (t : Step) → Takes (λ v f. f ≡ remoteText) w at s → s .end ≡ 0 → p .left ≢ 0 → Byted w at stage.Bytes p t
-      → Steps w at (continues stage.Data p) t
+      → Steps w at (continuesAt stage.Data p) t
   data-went t a z n b = go (gathered p t frames n (rw (g .1, g .3) (omega arith)) b)
     where
-      onto : (f : List ℕ) (fs : List (List ℕ)) (r : Record) → (f ≡ remoteText → ⊥) → continues stage.Data p (f ∷ fs) r → Gathers Row.Nothing p (f ∷ fs) r
+      onto : (f : List ℕ) (fs : List (List ℕ)) (r : Record) → (f ≡ remoteText → ⊥) → continuesAt stage.Data p (f ∷ fs) r → Gathers Row.Nothing p (f ∷ fs) r
       onto f fs r o c =
           let y = bytes-of (c .1) o in
           let m : r .len ≡ p .left = cc (c .0, g .2) in
           record { known = cc (c .0, y .0); sum = r .«data»; bytes = rw (g .3) (rw m at (y .1)); total = omega arith }
 
-      back : (f : List ℕ) (fs : List (List ℕ)) (r : Record) → Gathers Row.Nothing p (f ∷ fs) r → continues stage.Data p (f ∷ fs) r
+      back : (f : List ℕ) (fs : List (List ℕ)) (r : Record) → Gathers Row.Nothing p (f ∷ fs) r → continuesAt stage.Data p (f ∷ fs) r
       back f fs r c =
           let m : p .left ≡ r .len = cc (c .known, g .2) in
           let d : c .sum ≡ r .«data» = omega (arith, c .total) in
           (cc (c .known), Row.data-bytes (cc (c .known)) (rw (g .3, m, d) at (c .bytes)))
 
-      go : Steps w at (Gathers Row.Nothing p) t → Steps w at (continues stage.Data p) t
+      go : Steps w at (Gathers Row.Nothing p) t → Steps w at (continuesAt stage.Data p) t
       go (stuck e f) = stuck e (λ f′ rest h fs r c. f f′ rest h fs r (onto f′ fs r (none-there a z f′ rest h 0) c))
       go (moved h e k on ba) = moved h e k (λ fs r c. on fs r (onto _ fs r (none-there a z _ _ h 0) c)) (λ fs r c. back _ fs r (ba fs r c))

@@ -10,14 +10,14 @@ use Rattle.row.specs.declared.Part.{Part}
 use Rattle.row.specs.declared.Stage.{Stage}
 use Rattle.row.specs.declared.Stage.the-variants as stage
 use Rattle.row.specs.Row
-use Rattle.row.specs.Stages.{Ends, whole, early, Gathers, known6, continues, good}
+use Rattle.row.specs.inner.Stages.{EndsRow, whole, early, Gathers, known6, continuesAt, goodAt}
 use Rattle.row.proofs.Data.{no-more, none-left}
 
 -- The stages that a row may end in.
 abbrev pub last : Stage → Bool
 last (stage.Offset v) = false
 last stage.Bus = false
-last stage.Mark = false
+last stage.TypeColumn = false
 last stage.Id = false
 last stage.Length = false
 last stage.Data = true
@@ -53,13 +53,13 @@ no-bytes (Row.data-bytes k b) = (k, b)
 
 module _ (p : Part) where
   -- with bytes left a row is not whole
-  pub left-early : (x : Stage) → good x p → p .left ≢ 0 → Ends x p false
+  pub left-early : (x : Stage) → goodAt x p → p .left ≢ 0 → EndsRow x p false
   left-early x g n = early (go x g)
     where
-      go : (x : Stage) → good x p → (r : Record) → continues x p [] r → ⊥
+      go : (x : Stage) → goodAt x p → (r : Record) → continuesAt x p [] r → ⊥
       go (stage.Offset v) g r c = elim c [ ]
       go stage.Bus g r c = elim (c .1) [ ]
-      go stage.Mark g r c = elim (c .1) [ ]
+      go stage.TypeColumn g r c = elim (c .1) [ ]
       go stage.Id g r c = elim (c .1) [ ]
       go stage.Length g r c = elim (c .1) [ ]
       go stage.Data g r c = let m : r .len ≡ p .left = cc (c .0, g .2) in n (sym m ∙ none-left (no-bytes (c .1) .1))
@@ -72,10 +72,10 @@ module _ (p : Part) where
       go stage.ErrorFirst g r c = elim (c .1) [ ]
       go stage.ErrorSecond g r c = elim (c .bytes) [ ]
 
-  none-ends : (x : Stage) → good x p → p .left ≡ 0 → Ends x p (last x)
+  none-ends : (x : Stage) → goodAt x p → p .left ≡ 0 → EndsRow x p (last x)
   none-ends (stage.Offset v) g n = early (λ r c. elim c [ ])
   none-ends stage.Bus g n = early (λ r c. elim (c .1) [ ])
-  none-ends stage.Mark g n = early (λ r c. elim (c .1) [ ])
+  none-ends stage.TypeColumn g n = early (λ r c. elim (c .1) [ ])
   none-ends stage.Id g n = early (λ r c. elim (c .1) [ ])
   none-ends stage.Length g n = early (λ r c. elim (c .1) [ ])
   none-ends stage.Data g n =
@@ -95,5 +95,5 @@ module _ (p : Part) where
   none-ends stage.ErrorSecond g n = early (λ r c. elim (c .bytes) [ ])
 
   -- the same, where the stage is known by an equation
-  pub ends-at : (x : Stage) → p .stage ≡ x → good (p .stage) p → p .left ≡ 0 → Ends (p .stage) p (last x)
-  ends-at x e g n = subst (λ (y : Stage). Ends y p (last x)) (sym e) (none-ends x (subst (λ (y : Stage). good y p) e g) n)
+  pub ends-at : (x : Stage) → p .stage ≡ x → goodAt (p .stage) p → p .left ≡ 0 → EndsRow (p .stage) p (last x)
+  ends-at x e g n = subst (λ (y : Stage). EndsRow y p (last x)) (sym e) (none-ends x (subst (λ (y : Stage). goodAt y p) e g) n)

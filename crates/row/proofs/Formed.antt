@@ -131,15 +131,15 @@ module _ {r : Record} where
           error = λ _. record { extended = x; id = i; len = n; first = v .2; second = rw (v .3) p };
         }
 
-    mark-formed : {fs : List (List ℕ)} → Row.FromMark r fs → WellFormed r
-    mark-formed (Row.rx e h) = frame-formed (omega arith) h
-    mark-formed (Row.tx e h) = frame-formed (omega arith) h
-    mark-formed (Row.warng e h) = warning-formed h
-    mark-formed (Row.error e h) = error-formed h
+    type-formed : {fs : List (List ℕ)} → Row.FromType r fs → WellFormed r
+    type-formed (Row.rx e h) = frame-formed (omega arith) h
+    type-formed (Row.tx e h) = frame-formed (omega arith) h
+    type-formed (Row.warng e h) = warning-formed h
+    type-formed (Row.error e h) = error-formed h
 
   bus-formed : {x : Bool} {fs : List (List ℕ)} → r .offset ≤ offsetLimit → Row.FromBus r x fs → WellFormed r
-  bus-formed o (Row.no-bus b h) = mark-formed o (omega arith) h
-  bus-formed o (Row.bus b h) = mark-formed o (b .high) h
+  bus-formed o (Row.no-bus b h) = type-formed o (omega arith) h
+  bus-formed o (Row.bus b h) = type-formed o (b .high) h
 
 -- The record of a row is well formed.
 pub row-formed : {v k : ℕ} {r : Record} {line : List ℕ} → Row.Row v k r line → WellFormed r

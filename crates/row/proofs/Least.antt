@@ -6,7 +6,7 @@ use mathlib.Core.List.{List, [], _∷_}
 use native.Mathlib.Omega.{arith}
 use lib.ListN.{length, length-append}
 use Rattle.fields.specs.Runs.{All, more, Stops, halt}
-use Rattle.fields.specs.Parted.{NoBlank, Parted, none, blank, field}
+use Rattle.fields.specs.Parted.{NoBlank, Parted, none, blank-first, field}
 use Rattle.fields.specs.Columns.{NumberField, OffsetField, IdField, standard, long, LengthField}
 use Rattle.record.specs.declared.Record.{Record}
 use Rattle.row.specs.Row
@@ -25,7 +25,7 @@ solid (more n a) (halt h) = h n
 parted-size : {fs : List (List ℕ)} {line : List ℕ} → Parted fs line
     → (size fs ≤ length line + 1) × (Stops NoBlank line → size fs ≤ length line)
 parted-size none = (omega arith, λ z. omega arith)
-parted-size (blank q) = let h = parted-size q in (omega (arith, h .0), λ z. omega (arith, h .0))
+parted-size (blank-first q) = let h = parted-size q in (omega (arith, h .0), λ z. omega (arith, h .0))
 parted-size (field {b = b} {f = f} {s = s} a x e q) =
     let h = parted-size q .1 x in
     (omega (arith, ap length e ∙ length-append (b ∷ f) s), λ z. absurd (solid a (rw e at z)))
@@ -46,21 +46,21 @@ id-size (long e h l) = omega (arith, h .width)
 length-size : {len : ℕ} {f : List ℕ} → LengthField len f → 1 ≤ length f
 length-size p = omega (arith, ap length (p .spelled))
 
--- From the ID on, from the mark on, and from the bus on.
+-- From the ID on, from the type on, and from the bus on.
 
 module _ {r : Record} where
   frame : {sent : ℕ} {fs : List (List ℕ)} → Row.FrameId sent r fs → 7 ≤ size fs
   frame (Row.frame-id i (Row.frame-length l d)) = omega (arith, id-size i, length-size l)
 
-  mark : {fs : List (List ℕ)} → Row.FromMark r fs → 10 ≤ size fs
-  mark (Row.rx e h) = omega (arith, ap length e, frame h)
-  mark (Row.tx e h) = omega (arith, ap length e, frame h)
-  mark (Row.warng e (Row.warning-id k x h (Row.warning-length l b))) = omega (arith, ap length e, h .width, length-size l)
-  mark (Row.error e (Row.error-id k x h i (Row.error-length n l b))) = omega (arith, ap length e, h .width, length-size l)
+  type : {fs : List (List ℕ)} → Row.FromType r fs → 10 ≤ size fs
+  type (Row.rx e h) = omega (arith, ap length e, frame h)
+  type (Row.tx e h) = omega (arith, ap length e, frame h)
+  type (Row.warng e (Row.warning-id k x h (Row.warning-length l b))) = omega (arith, ap length e, h .width, length-size l)
+  type (Row.error e (Row.error-id k x h i (Row.error-length n l b))) = omega (arith, ap length e, h .width, length-size l)
 
   bus : {x : Bool} {fs : List (List ℕ)} → Row.FromBus r x fs → 10 ≤ size fs
-  bus (Row.no-bus b h) = mark h
-  bus (Row.bus b h) = omega (arith, mark h)
+  bus (Row.no-bus b h) = type h
+  bus (Row.bus b h) = omega (arith, type h)
 
 -- The fields of a row, with a blank behind each.
 fields-size : {v k : ℕ} {r : Record} {fs : List (List ℕ)} → Row.RowFields v k r fs → 17 ≤ size fs

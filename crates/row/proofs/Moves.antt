@@ -5,11 +5,11 @@ use mathlib.Core.List.{List, _∷_}
 use native.Mathlib.Omega.{arith}
 use lib.ListN.{length, drop}
 use Rattle.fields.specs.declared.Scan.{Scan}
-use Rattle.fields.specs.Window.{FieldAt, Takes, taken, not}
+use Rattle.fields.specs.inner.Window.{FieldAt, Takes, taken, not}
 use Rattle.fields.proofs.Window.{field-one}
 use Rattle.record.specs.declared.Record.{Record}
 use Rattle.row.specs.declared.Step.{Step}
-use Rattle.row.specs.Stages.{Steps, moved, stuck, Continues, Good}
+use Rattle.row.specs.inner.Stages.{Steps, moved, stuck, Continues, Good}
 
 -- A field that a reader took.
 pub record Got (P : ℕ → List ℕ → Type 0) (w : List ℕ) (at : ℕ) (s : Scan) : Type 0 where

@@ -8,7 +8,7 @@ use lib.ListN.{length}
 use Rattle.digits.proofs.Theorems.{one-hex}
 use Rattle.fields.specs.Columns.{OffsetField, remoteText}
 use Rattle.fields.specs.Runs.{halt}
-use Rattle.fields.proofs.Columns.{number-one, offset-one, bus-one, id-one, length-one, mark-one}
+use Rattle.fields.proofs.Columns.{number-one, offset-one, bus-one, id-one, length-one, type-one}
 use Rattle.fields.proofs.Parts.{parted-one}
 use Rattle.fields.proofs.Runs.{cut}
 use Rattle.fields.proofs.Scans.{digits-all}
@@ -17,7 +17,7 @@ use Rattle.record.specs.Promise.{fieldsOf}
 use Rattle.record.proofs.Promises.{same-fields}
 use Rattle.row.specs.Row
 use Rattle.row.proofs.EachVersion.{digits-tell}
-use Rattle.row.proofs.Columns.{AfterMark, received, sent, warned, failed, mark-of}
+use Rattle.row.proofs.Columns.{AfterType, received, sent, warned, failed, type-of}
 
 -- The data.
 
@@ -41,7 +41,7 @@ no-remote : {place n sum : ℕ} {f : List ℕ} {fs : List (List ℕ)} → Row.By
 no-remote (Row.done h) e = elim h [ ]
 no-remote (Row.byte h r d) e = omega (arith, ap length e, h .width)
 
--- What the fields behind the mark, and the mark, say of a record.
+-- What the fields behind the type, and the type, say of a record.
 abbrev behind : Record → List ℕ
 behind r = r .kind ∷ r .extended ∷ r .id ∷ r .len ∷ r .«data» ∷ []
 
@@ -68,20 +68,20 @@ module _ {r q : Record} where
   error-one (Row.error-id k x h i (Row.error-length l f d)) (Row.error-id m y j o (Row.error-length n g c)) =
       cc (one-hex h j, first-one d c)
 
--- The columns up to the mark.
+-- The columns up to the type.
 
-after-one : {r q : Record} {v : ℕ} {fs : List (List ℕ)} → AfterMark r v fs → AfterMark q v fs → behind r ≡ behind q
+after-one : {r q : Record} {v : ℕ} {fs : List (List ℕ)} → AfterType r v fs → AfterType q v fs → behind r ≡ behind q
 after-one (received h) (received k) = frame-one h k
 after-one (sent h) (sent k) = frame-one h k
 after-one (warned h) (warned k) = warning-one h k
 after-one (failed h) (failed k) = error-one h k
 
-marked : {r q : Record} (fs : List (List ℕ)) → Row.FromMark r fs → Row.FromMark q fs → behind r ≡ behind q
+marked : {r q : Record} (fs : List (List ℕ)) → Row.FromType r fs → Row.FromType q fs → behind r ≡ behind q
 marked [] h k = elim h [ ]
 marked (f ∷ fs) h k =
-    let x = mark-of h in
-    let y = mark-of k in
-    after-one (rw (mark-one (x .1) (y .1)) at (x .2)) (y .2)
+    let x = type-of h in
+    let y = type-of k in
+    after-one (rw (type-one (x .1) (y .1)) at (x .2)) (y .2)
 
 bused : {r q : Record} {x : Bool} {fs : List (List ℕ)} → Row.FromBus r x fs → Row.FromBus q x fs → (r .bus ≡ q .bus) × (behind r ≡ behind q)
 bused (Row.no-bus b h) (Row.no-bus c k) = (b ∙ sym c, marked _ h k)

@@ -10,8 +10,8 @@ use Rattle.digits.specs.Digits.{DecimalDigit, Digits, none, more}
 use Rattle.fields.specs.Runs.{All}
 use Rattle.fields.specs.Columns.{NumberField}
 use Rattle.fields.specs.Parted.{Parted}
-use Rattle.fields.specs.Window.{rx, tx, warng, error}
-use Rattle.fields.proofs.Columns.{Plain, number-plain, offset-plain, bus-plain, mark-plain, remote-plain, byte-plain, hex-plain, id-plain, length-plain, word-plain}
+use Rattle.fields.specs.inner.Window.{rx, tx, warng, error}
+use Rattle.fields.proofs.Columns.{Plain, number-plain, offset-plain, bus-plain, type-plain, remote-plain, byte-plain, hex-plain, id-plain, length-plain, word-plain}
 use Rattle.fields.proofs.Runs.{all-map}
 use Rattle.record.specs.declared.Record.{Record}
 use Rattle.row.specs.Row
@@ -43,19 +43,19 @@ module _ {r : Record} where
   frame : {sent : ℕ} {fs : List (List ℕ)} → Row.FrameId sent r fs → Plains fs
   frame (Row.frame-id i (Row.frame-length l d)) = then (id-plain i) (then (length-plain l) (frame-data d))
 
-  mark : {fs : List (List ℕ)} → Row.FromMark r fs → Plains fs
-  mark (Row.rx e h) = then (mark-plain (rx e)) (frame h)
-  mark (Row.tx e h) = then (mark-plain (tx e)) (frame h)
-  mark (Row.warng e (Row.warning-id k x h (Row.warning-length l b))) =
-      then (mark-plain (warng e)) (then (hex-plain (hex-field (omega arith) h)) (then (length-plain l) (bytes (λ gs. words) b)))
-  mark (Row.error e (Row.error-id k x h i (Row.error-length n l (Row.first f z (Row.second g p q w) u)))) =
-      then (mark-plain (error e))
+  type : {fs : List (List ℕ)} → Row.FromType r fs → Plains fs
+  type (Row.rx e h) = then (type-plain (rx e)) (frame h)
+  type (Row.tx e h) = then (type-plain (tx e)) (frame h)
+  type (Row.warng e (Row.warning-id k x h (Row.warning-length l b))) =
+      then (type-plain (warng e)) (then (hex-plain (hex-field (omega arith) h)) (then (length-plain l) (bytes (λ gs. words) b)))
+  type (Row.error e (Row.error-id k x h i (Row.error-length n l (Row.first f z (Row.second g p q w) u)))) =
+      then (type-plain (error e))
       (then (hex-plain (hex-field (omega arith) h))
       (then (length-plain l) (then (byte-plain f) (then (byte-plain g) (bytes (λ gs. nothing) q)))))
 
   bus : {x : Bool} {fs : List (List ℕ)} → Row.FromBus r x fs → Plains fs
-  bus (Row.no-bus b h) = mark h
-  bus (Row.bus b h) = then (bus-plain b) (mark h)
+  bus (Row.no-bus b h) = type h
+  bus (Row.bus b h) = then (bus-plain b) (type h)
 
 -- Each field of a row has no blank, CR or LF.
 pub fields-plain : {v k : ℕ} {r : Record} {fs : List (List ℕ)} → Row.RowFields v k r fs → Each (All Plain) fs

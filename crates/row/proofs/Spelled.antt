@@ -19,12 +19,12 @@ use Rattle.fields.proofs.Runs.{all-map}
 use Rattle.record.specs.declared.Record.{Record}
 use Rattle.record.specs.Record.{WellFormed}
 use Rattle.row.specs.Row
-use Rattle.row.specs.House.{numberText, markText, idText, dataTexts, frameTexts, rowTexts, rowText}
+use Rattle.row.specs.House.{numberText, typeText, idText, dataTexts, frameTexts, rowTexts, rowText}
 use Rattle.row.specs.Versions.{is11, is12, Carries, v11, v12}
 use Rattle.row.proofs.Fields.{each-map}
 use Rattle.row.proofs.Formed.{error-small}
 use Rattle.row.proofs.Plain.{fields-plain}
-use Rattle.row.proofs.Texts.{joined-short, parted-joined, number-text, offset-text, mark-text, id-frame, id-warning, data-remote, data-bytes, row-texts, row-texts-11, row-texts-12, row-sized}
+use Rattle.row.proofs.Texts.{joined-short, parted-joined, number-text, offset-text, type-text, id-frame, id-warning, data-remote, data-bytes, row-texts, row-texts-11, row-texts-12, row-sized}
 
 -- Place value: the byte at 256 ^ m of a number, and those below it.
 high : (whole m : ℕ) → whole % 256 ^ suc m ≡ whole / 256 ^ m % 256 * 256 ^ m + whole % 256 ^ m
@@ -138,16 +138,16 @@ module _ {r : Record} (w : WellFormed r) where
       (bytes-spelled Row.Nothing Row.nothing (r .«data») 2 5 (256 ^ 5) _ refl (omega arith) (four-zero (x .len)) refl)
       (high (r .«data») 6)) (eight-bytes ∙ high (r .«data») 7))))
 
-  mark-spelled : (k : ℕ) → r .kind ≡ k → Row.FromMark r (frameTexts r)
-  mark-spelled zero e = Row.rx (ap markText e ∙ mark-text 0) (frame 0 (λ z. omega arith) (received 0 (omega arith) e))
-  mark-spelled (suc zero) e = Row.tx (ap markText e ∙ mark-text 1) (frame 1 (λ z. omega arith) (received 1 (omega arith) e))
-  mark-spelled (suc (suc zero)) e =
-      Row.rx (ap markText e ∙ mark-text 2) (frame 0 (λ z. omega arith) (asked 0 (omega arith) e (w .remote (inl e))))
-  mark-spelled (suc (suc (suc zero))) e =
-      Row.tx (ap markText e ∙ mark-text 3) (frame 1 (λ z. omega arith) (asked 1 (omega arith) e (w .remote (inr e))))
-  mark-spelled (suc (suc (suc (suc zero)))) e = Row.warng (ap markText e ∙ mark-text 4) (warned e)
-  mark-spelled (suc (suc (suc (suc (suc zero))))) e = Row.error (ap markText e ∙ mark-text 5) (failed e)
-  mark-spelled (suc (suc (suc (suc (suc (suc k)))))) e = absurd (omega (arith, w .kind))
+  type-spelled : (k : ℕ) → r .kind ≡ k → Row.FromType r (frameTexts r)
+  type-spelled zero e = Row.rx (ap typeText e ∙ type-text 0) (frame 0 (λ z. omega arith) (received 0 (omega arith) e))
+  type-spelled (suc zero) e = Row.tx (ap typeText e ∙ type-text 1) (frame 1 (λ z. omega arith) (received 1 (omega arith) e))
+  type-spelled (suc (suc zero)) e =
+      Row.rx (ap typeText e ∙ type-text 2) (frame 0 (λ z. omega arith) (asked 0 (omega arith) e (w .remote (inl e))))
+  type-spelled (suc (suc (suc zero))) e =
+      Row.tx (ap typeText e ∙ type-text 3) (frame 1 (λ z. omega arith) (asked 1 (omega arith) e (w .remote (inr e))))
+  type-spelled (suc (suc (suc (suc zero)))) e = Row.warng (ap typeText e ∙ type-text 4) (warned e)
+  type-spelled (suc (suc (suc (suc (suc zero))))) e = Row.error (ap typeText e ∙ type-text 5) (failed e)
+  type-spelled (suc (suc (suc (suc (suc (suc k)))))) e = absurd (omega (arith, w .kind))
 
 -- The house texts are the fields of a row.
 pub fields-spelled : {v k : ℕ} {r : Record} → WellFormed r → Carries r v → 1 ≤ k → k ≤ lastNumber
@@ -156,12 +156,12 @@ fields-spelled {k = k} {r = r} w (v11 b o) l h =
     rw row-texts-11
     (Row.number (number-spelled k l h)
     (Row.offset is11 (offset-spelled 1 (r .offset) (r .offset % 1000 / 100) (w .offset) (omega arith) (omega arith) (offset-text 11 (r .offset)))
-    (Row.no-bus b (mark-spelled w (r .kind) refl))))
+    (Row.no-bus b (type-spelled w (r .kind) refl))))
 fields-spelled {k = k} {r = r} w (v12 a b) l h =
     rw row-texts-12
     (Row.number (number-spelled k l h)
     (Row.offset is12 (offset-spelled 3 (r .offset) (r .offset % 1000 / 1) (w .offset) (omega arith) (omega arith) (offset-text 12 (r .offset)))
-    (Row.bus (record { spelled = decimal-spells (r .bus); low = a; high = b }) (mark-spelled w (r .kind) refl))))
+    (Row.bus (record { spelled = decimal-spells (r .bus); low = a; high = b }) (type-spelled w (r .kind) refl))))
 
 -- The house spelling of a row is a row of its record.
 pub row-spelled : {v k : ℕ} {r : Record} → WellFormed r → Carries r v → 1 ≤ k → k ≤ lastNumber → Row.Row v k r (rowText v k r)

@@ -20,11 +20,11 @@ use Rattle.digits.proofs.ByteTexts.{bytes-none, bytes-more}
 use Rattle.digits.proofs.House.{length-fixed, few, decimal-spells}
 use Rattle.fields.specs.Columns.{remoteText, lastNumber}
 use Rattle.fields.specs.Runs.{All, over, halt}
-use Rattle.fields.specs.Parted.{NoBlank, Parted, none, blank}
+use Rattle.fields.specs.Parted.{NoBlank, Parted, none, blank-first}
 use Rattle.fields.proofs.Parts.{first}
 use Rattle.record.specs.declared.Record.{Record}
 use Rattle.record.specs.Record.{WellFormed}
-use Rattle.row.specs.House.{numberText, offsetText, busTexts, marks, markText, idText, dataTexts, frameTexts, rowTexts}
+use Rattle.row.specs.House.{numberText, offsetText, busTexts, types, typeText, idText, dataTexts, frameTexts, rowTexts}
 use Rattle.row.specs.Versions.{fractionDigits, Carries, v11, v12}
 use Rattle.row.proofs.Fields.{Each, no-more, then}
 
@@ -53,7 +53,7 @@ pub parted-joined : {n : ℕ} {fs : List (List ℕ)} → Sized n fs → Each (Al
 parted-joined nil no-more = rw joined-none none
 parted-joined (one {f = f} s l nil) (then p no-more) = first s p over none (joined-last f)
 parted-joined (one {f = f} s l (one {f = g} {fs = fs} t k e)) (then p (then q c)) =
-    first s p (halt (λ n. n refl)) (blank (parted-joined (one t k e) (then q c))) (joined-two f g fs)
+    first s p (halt (λ n. n refl)) (blank-first (parted-joined (one t k e) (then q c))) (joined-two f g fs)
 
 -- Each text, as it is defined.
 
@@ -74,9 +74,9 @@ pub bus-text : (bus : ℕ) → busTexts 12 bus ≡ decimalText bus ∷ []
 unfolding busTexts
 bus-text bus = refl
 
-pub mark-text : (kind : ℕ) → markText kind ≡ getD marks kind []
-unfolding markText
-mark-text kind = refl
+pub type-text : (kind : ℕ) → typeText kind ≡ getD types kind []
+unfolding typeText
+type-text kind = refl
 
 pub id-frame : (r : Record) → r .kind ≢ 4 → idText r ≡ hexText Capital (4 + 4 * r .extended) (r .id)
 unfolding idText
@@ -138,16 +138,16 @@ offset-size v offset l h =
     rw offset-text (omega arith, omega arith)
 
 -- `Rx` and `Tx`, for frames, are shorter than `Warng` and `Error`.
-abbrev markWidth : ℕ → ℕ
-markWidth kind = cond (ltb kind 4) 2 5
+abbrev typeWidth : ℕ → ℕ
+typeWidth kind = cond (ltb kind 4) 2 5
 
-mark-size : (kind : ℕ) → kind ≤ 5 → Fits (markWidth kind) (markText kind)
-mark-size kind h =
-    let t = at (λ k f. both (leb 1 (length f)) (leb (length f) (markWidth k))) [] marks tt kind (omega arith) in
-    let f = getD marks kind [] in
-    rw mark-text (
-      leb→le 1 (length f) (both-left (leb 1 (length f)) (leb (length f) (markWidth kind)) t),
-      leb→le (length f) (markWidth kind) (both-right (leb 1 (length f)) (leb (length f) (markWidth kind)) t),
+type-size : (kind : ℕ) → kind ≤ 5 → Fits (typeWidth kind) (typeText kind)
+type-size kind h =
+    let t = at (λ k f. both (leb 1 (length f)) (leb (length f) (typeWidth k))) [] types tt kind (omega arith) in
+    let f = getD types kind [] in
+    rw type-text (
+      leb→le 1 (length f) (both-left (leb 1 (length f)) (leb (length f) (typeWidth kind)) t),
+      leb→le (length f) (typeWidth kind) (both-right (leb 1 (length f)) (leb (length f) (typeWidth kind)) t),
     )
 
 id-size : (r : Record) → r .extended ≤ 1 → Fits 8 (idText r)
@@ -182,13 +182,13 @@ four {r} w h = go (ℕ-discrete (r .kind) 4)
     go (yes e) = w .warning e .len
     go (no n) = let k = w .kind in w .error (omega arith) .len
 
--- From the mark on: a frame's eight bytes take more than what the long marks have more.
-mark-sized : {r : Record} → WellFormed r → Sized 38 (frameTexts r)
-mark-sized {r} w = ⊎-elim frame other (below-or-not (r .kind) 4)
+-- From the type on: a frame's eight bytes take more than what the long types have more.
+type-sized : {r : Record} → WellFormed r → Sized 38 (frameTexts r)
+type-sized {r} w = ⊎-elim frame other (below-or-not (r .kind) 4)
   where
     frame : r .kind < 4 → Sized 38 (frameTexts r)
     frame h =
-        fits 38 2 35 (rw (lt-ltb (r .kind) 4 h) at (mark-size (r .kind) (w .kind))) (omega arith)
+        fits 38 2 35 (rw (lt-ltb (r .kind) 4 h) at (type-size (r .kind) (w .kind))) (omega arith)
         (fits 35 8 26 (id-size r (w .extended)) (omega arith)
         (fits 26 1 24 (omega arith, omega arith) (omega arith) (data-size r (w .len))))
 
@@ -196,7 +196,7 @@ mark-sized {r} w = ⊎-elim frame other (below-or-not (r .kind) 4)
     other h =
         let n : r .kind / 2 ≢ 1 = λ e. omega arith in
         let d = wider (3 * r .len) 12 (omega (arith, four w h)) (bytes-size (256 ^ 7) (r .len) (r .«data»)) in
-        fits 38 5 23 (rw (le-ltb (r .kind) 4 h) at (mark-size (r .kind) (w .kind))) (omega arith)
+        fits 38 5 23 (rw (le-ltb (r .kind) 4 h) at (type-size (r .kind) (w .kind))) (omega arith)
         (fits 23 8 14 (id-size r (w .extended)) (omega arith)
         (fits 14 1 12 (omega arith, omega arith) (omega arith) (rw (data-bytes r n) d)))
 
@@ -205,9 +205,9 @@ pub row-sized : {v k : ℕ} {r : Record} → WellFormed r → Carries r v → k 
 row-sized {k = k} {r = r} w (v11 b o) h =
     rw row-texts-11
     (fits 65 7 57 (number-size k h) (omega arith)
-    (fits 57 15 38 (offset-size 11 (r .offset) (omega arith) (w .offset)) (omega arith) (mark-sized w)))
+    (fits 57 15 38 (offset-size 11 (r .offset) (omega arith) (w .offset)) (omega arith) (type-sized w)))
 row-sized {k = k} {r = r} w (v12 l b) h =
     rw row-texts-12
     (fits 65 7 57 (number-size k h) (omega arith)
     (fits 57 15 41 (offset-size 12 (r .offset) (omega arith) (w .offset)) (omega arith)
-    (fits 41 2 38 (decimal-size 1 (r .bus) (omega arith)) (omega arith) (mark-sized w))))
+    (fits 41 2 38 (decimal-size 1 (r .bus) (omega arith)) (omega arith) (type-sized w))))

@@ -9,7 +9,7 @@ use Rattle.base.specs.Text.{bracket, point}
 use Rattle.digits.specs.declared.Letters.the-variants.{Capital}
 use Rattle.digits.specs.House.{figureOf, decimalText, paddedText, hexText, byteTexts}
 use Rattle.record.specs.declared.Record.{Record}
-use Rattle.fields.specs.Columns.{markRx, markTx, markWarng, markError, remoteText}
+use Rattle.fields.specs.Columns.{typeRx, typeTx, typeWarng, typeError, remoteText}
 use Rattle.row.specs.Versions.{fractionDigits, hasBus}
 
 unfoldable pub numberText : ℕ → List ℕ
@@ -23,13 +23,13 @@ offsetText v offset =
 unfoldable pub busTexts : ℕ → ℕ → List (List ℕ)
 busTexts v bus = cond (hasBus v) (decimalText bus ∷ []) []
 
--- The mark of each kind: `Rx`, `Tx`, again for remote frames, `Warng`, `Error`.
-abbrev pub marks : List (List ℕ)
-marks =
-    markRx ∷ markTx ∷ markRx ∷ markTx ∷ markWarng ∷ markError ∷ []
+-- The type of each kind: `Rx`, `Tx`, again for remote frames, `Warng`, `Error`.
+abbrev pub types : List (List ℕ)
+types =
+    typeRx ∷ typeTx ∷ typeRx ∷ typeTx ∷ typeWarng ∷ typeError ∷ []
 
-unfoldable pub markText : ℕ → List ℕ
-markText kind = getD marks kind []
+unfoldable pub typeText : ℕ → List ℕ
+typeText kind = getD types kind []
 
 -- Eight F for a warning; else eight digits if extended, and four if not.
 unfoldable pub idText : Record → List ℕ
@@ -39,9 +39,9 @@ idText r = cond (eqb (r .kind) 4) (hexText Capital 8 0xFFFFFFFF) (hexText Capita
 unfoldable pub dataTexts : Record → List (List ℕ)
 dataTexts r = cond (eqb (r .kind / 2) 1) (remoteText ∷ []) (byteTexts Capital (256 ^ 7) (r .len) (r .«data»))
 
--- The fields from the mark on.
+-- The fields from the type on.
 abbrev pub frameTexts : Record → List (List ℕ)
-frameTexts r = markText (r .kind) ∷ idText r ∷ (figureOf (r .len) ∷ []) ∷ dataTexts r
+frameTexts r = typeText (r .kind) ∷ idText r ∷ (figureOf (r .len) ∷ []) ∷ dataTexts r
 
 -- The fields of the row with number k and record r in version v.
 unfoldable pub rowTexts : ℕ → ℕ → Record → List (List ℕ)

@@ -1,4 +1,4 @@
 pub mod Versions
 pub mod Row
 pub mod House
-pub mod Stages
+pub mod inner

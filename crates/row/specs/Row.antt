@@ -9,7 +9,7 @@ use Rattle.record.specs.declared.Record.{Record}
 use Rattle.record.specs.Record.{Position, ErrorId, Warning}
 use Rattle.fields.specs.Runs.{All}
 use Rattle.fields.specs.Parted.{Parted}
-use Rattle.fields.specs.Columns.{NumberField, OffsetField, BusField, IdField, LengthField, Capital, markRx, markTx, markWarng, markError, remoteText}
+use Rattle.fields.specs.Columns.{NumberField, OffsetField, BusField, IdField, LengthField, Capital, typeRx, typeTx, typeWarng, typeError, remoteText}
 use Rattle.row.specs.Versions.{Version, fractionDigits, hasBus}
 
 -- Any number of words.
@@ -70,17 +70,17 @@ pub data ErrorIdField (r : Record) : List (List ℕ) → Type 0 where
   error-id : {f : List ℕ} {fs : List (List ℕ)} → r .kind ≡ 5 → r .extended ≡ 0 → Hex 4 (r .id) f → ErrorId (r .id) → ErrorLength r fs
       → ErrorIdField r (f ∷ fs)
 
--- From the mark on: `Rx`, `Tx`, `Warng` or `Error`.
-pub data FromMark (r : Record) : List (List ℕ) → Type 0 where
-  rx : {f : List ℕ} {fs : List (List ℕ)} → f ≡ markRx → FrameId 0 r fs → FromMark r (f ∷ fs)
-  tx : {f : List ℕ} {fs : List (List ℕ)} → f ≡ markTx → FrameId 1 r fs → FromMark r (f ∷ fs)
-  warng : {f : List ℕ} {fs : List (List ℕ)} → f ≡ markWarng → WarningId r fs → FromMark r (f ∷ fs)
-  error : {f : List ℕ} {fs : List (List ℕ)} → f ≡ markError → ErrorIdField r fs → FromMark r (f ∷ fs)
+-- From the type on: `Rx`, `Tx`, `Warng` or `Error`.
+pub data FromType (r : Record) : List (List ℕ) → Type 0 where
+  rx : {f : List ℕ} {fs : List (List ℕ)} → f ≡ typeRx → FrameId 0 r fs → FromType r (f ∷ fs)
+  tx : {f : List ℕ} {fs : List (List ℕ)} → f ≡ typeTx → FrameId 1 r fs → FromType r (f ∷ fs)
+  warng : {f : List ℕ} {fs : List (List ℕ)} → f ≡ typeWarng → WarningId r fs → FromType r (f ∷ fs)
+  error : {f : List ℕ} {fs : List (List ℕ)} → f ≡ typeError → ErrorIdField r fs → FromType r (f ∷ fs)
 
 -- From the bus on, where the version has one; where it has none, the bus is 0.
 pub data FromBus (r : Record) : Bool → List (List ℕ) → Type 0 where
-  no-bus : {fs : List (List ℕ)} → r .bus ≡ 0 → FromMark r fs → FromBus r false fs
-  bus : {f : List ℕ} {fs : List (List ℕ)} → BusField (r .bus) f → FromMark r fs → FromBus r true (f ∷ fs)
+  no-bus : {fs : List (List ℕ)} → r .bus ≡ 0 → FromType r fs → FromBus r false fs
+  bus : {f : List ℕ} {fs : List (List ℕ)} → BusField (r .bus) f → FromType r fs → FromBus r true (f ∷ fs)
 
 -- From the offset on: as many digits behind its point as the version says.
 pub data FromOffset (r : Record) (v : ℕ) : List (List ℕ) → Type 0 where

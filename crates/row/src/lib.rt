@@ -17,7 +17,7 @@ pub const FIRST_PLACE: u64 = 72057594037927936;
 pub enum Stage {
     Offset(u64),
     Bus,
-    Mark,
+    TypeColumn,
     Id,
     Length,
     Data,

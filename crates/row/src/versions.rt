@@ -1,7 +1,7 @@
 // What each version of a trace decides, as `specs/Versions` has it.
 use record::Record;
 ghost use mathlib.Core.Path.{_≡_};
-ghost use Rattle.base.specs.Decides.{Decides};
+ghost use Rattle.base.specs.inner.Decides.{Decides};
 ghost use Rattle.row.specs.Versions.{Version, headLines, fractionDigits, hasBus, Carries};
 
 // 1.1 or 1.2.

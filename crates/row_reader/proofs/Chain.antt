@@ -7,20 +7,20 @@ use mathlib.Core.List.{List, []}
 use native.Mathlib.Decide.{ℕ-discrete}
 use native.Mathlib.Omega.{arith}
 use lib.ListN.{getD, drop}
-use Rattle.base.specs.Decides.{Decides}
+use Rattle.base.specs.inner.Decides.{Decides}
 use Rattle.base.proofs.Tests.{shown, refuted}
-use Rattle.fields.specs.Window.{Lined, Skipped, Starts}
+use Rattle.fields.specs.inner.Window.{Lined, Skipped, Starts}
 use Rattle.fields.proofs.Parts.{only-none}
 use Rattle.record.specs.declared.Record.{Record}
 use Rattle.row.specs.declared.Stage.{Stage}
 use Rattle.row.specs.declared.Step.{Step}
 use Rattle.row.specs.Row.{RowFields}
-use Rattle.row.specs.Stages.{Steps, Continues}
+use Rattle.row.specs.inner.Stages.{Steps, Continues}
 use Rattle.row.proofs.Columns.{behind}
 use Rattle.row.proofs.Ending.{last, ends-at, left-early}
-use Rattle.row_reader.specs.Answer.{RowFound, row-found, no-row}
-use Rattle.row_reader.specs.Chain.{Finds, found, Leads, Goes, GoesRow, Ready, known, seen, Finished, all-read, some-left}
-use Rattle.row_reader.specs.Chain.{none as none-found}
+use Rattle.row_reader.specs.inner.Answer.{RowFound, row-found, no-row}
+use Rattle.row_reader.specs.inner.Chain.{Finds, found, Leads, Goes, GoesRow, Ready, known, seen, Finished, all-read, some-left}
+use Rattle.row_reader.specs.inner.Chain.{none as none-found}
 use Rattle.row_reader.proofs.Walk.{gap-found, gap-starts, end-found, field-found, field-none, not-whole, is-whole, onward}
 
 -- A gap: b says whether the line ends behind it.

@@ -12,13 +12,13 @@ use Rattle.digits.specs.Digits.{Hex}
 use Rattle.fields.specs.declared.Scan.{Scan}
 use Rattle.fields.specs.Columns.{NumberField, OffsetField, BusField, LengthField, Capital, remoteText}
 use Rattle.fields.specs.Runs.{All}
-use Rattle.fields.specs.Window.{Takes, taken, not, HexField, MarkField}
+use Rattle.fields.specs.inner.Window.{Takes, taken, not, HexField, TypeField}
 use Rattle.record.specs.declared.Record.{Record}
 use Rattle.record.specs.Record.{ErrorId, Position}
 use Rattle.row.specs.declared.Stage.the-variants as stage
 use Rattle.row.specs.Versions.{Version, fractionDigits, hasBus}
 use Rattle.row.specs.Row
-use Rattle.row.specs.Stages.{Steps, Continues, one-byte, no-byte}
+use Rattle.row.specs.inner.Stages.{Steps, Continues, one-byte, no-byte}
 use Rattle.row.proofs.Columns.{
   behind,
   after-number,
@@ -26,16 +26,16 @@ use Rattle.row.proofs.Columns.{
   after-bus,
   after-id,
   after-length,
-  some-mark,
+  some-type,
   some-id,
   number-barred,
   number-went,
   offset-went,
   offset-bus-went,
   bus-went,
-  mark-frame,
-  mark-warning,
-  mark-error,
+  type-frame,
+  type-warning,
+  type-error,
   Form,
   four,
   eight,
@@ -74,15 +74,15 @@ use Rattle.row.proofs.Warnings.{
   error-second-barred,
   error-second-went,
 }
-use Rattle.row_reader.specs.Chain.{seen, known, Ready, GoesRow, Puts, PutsRemote, PutsWarning, FormOf, standard, long, neither}
-use Rattle.row_reader.specs.Chain.{none as none-found}
+use Rattle.row_reader.specs.inner.Chain.{seen, known, Ready, GoesRow, PutsSlot, PutsRemote, PutsWarning, FormOf, standard, long, neither}
+use Rattle.row_reader.specs.inner.Chain.{none as none-found}
 
 -- The row number.
 module _ {w : List ℕ} {at k : ℕ} {s : Scan} (t : Takes NumberField w at s) (out : List ℕ) where
-  pub number-off : {version : ℕ} → s .end ≡ 0 → Steps w at (λ fs r. Row.RowFields version k r fs) (behind 0 stage.Mark 0 0 (seen out 0))
+  pub number-off : {version : ℕ} → s .end ≡ 0 → Steps w at (λ fs r. Row.RowFields version k r fs) (behind 0 stage.TypeColumn 0 0 (seen out 0))
   number-off z = refused _ t z refl (λ f fs r h. (k, after-number h .0))
 
-  pub number-none : {version : ℕ} → s .end ≢ 0 → s .value ≢ k → Steps w at (λ fs r. Row.RowFields version k r fs) (behind 0 stage.Mark 0 0 (seen out 0))
+  pub number-none : {version : ℕ} → s .end ≢ 0 → s .value ≢ k → Steps w at (λ fs r. Row.RowFields version k r fs) (behind 0 stage.TypeColumn 0 0 (seen out 0))
   number-none n f = number-barred _ (got t n) refl f
 
   pub number-on : {version : ℕ} → s .end ≢ 0 → s .value ≡ k → Version version
@@ -104,45 +104,45 @@ byte-off {left = left} {place = place} {word = word} {out = out} g n = bytes-bar
 module _ {w : List ℕ} {at : ℕ} {s : Scan} {out : List ℕ} where
   -- The offset, with a bus behind it or none.
   module _ {v n : ℕ} (g : Ready (stage.Offset v) 0 0 0 out) (d : n ≡ fractionDigits v) (t : Takes (OffsetField n) w at s) where
-    pub offset-off : s .end ≡ 0 → Steps w at (Continues (known (stage.Offset v) 0 0 0 out)) (behind 0 stage.Mark 0 0 (seen out 0))
+    pub offset-off : s .end ≡ 0 → Steps w at (Continues (known (stage.Offset v) 0 0 0 out)) (behind 0 stage.TypeColumn 0 0 (seen out 0))
     offset-off z = refused _ (rw d at t) z refl (λ f fs r h. (r .offset, after-offset h .0))
 
-    pub offset-on : {mid new : List ℕ} → s .end ≢ 0 → hasBus v ≡ false → Puts 0 (s .value) out mid → Puts 1 0 mid new
-        → Steps w at (Continues (known (stage.Offset v) 0 0 0 out)) (behind (s .end) stage.Mark 0 0 (seen new 0))
+    pub offset-on : {mid new : List ℕ} → s .end ≢ 0 → hasBus v ≡ false → PutsSlot 0 (s .value) out mid → PutsSlot 1 0 mid new
+        → Steps w at (Continues (known (stage.Offset v) 0 0 0 out)) (behind (s .end) stage.TypeColumn 0 0 (seen new 0))
     offset-on {mid} {new} z b p q =
         let x = p .slots in
         let y = q .slots in
         offset-went (known (stage.Offset v) 0 0 0 out) (g .good .0) (got (rw d at t) z) b (seen new 0) (cc (x, y)) (cc (x, y)) refl
 
-    pub offset-bus-on : {new : List ℕ} → s .end ≢ 0 → hasBus v ≡ true → Puts 0 (s .value) out new
+    pub offset-bus-on : {new : List ℕ} → s .end ≢ 0 → hasBus v ≡ true → PutsSlot 0 (s .value) out new
         → Steps w at (Continues (known (stage.Offset v) 0 0 0 out)) (behind (s .end) stage.Bus 0 0 (seen new 0))
     offset-bus-on {new} z b p = let x = p .slots in offset-bus-went (known (stage.Offset v) 0 0 0 out) (g .good .0) (got (rw d at t) z) b (seen new 0) (cc (x)) refl
 
   -- The bus.
   module _ (g : Ready stage.Bus 0 0 0 out) (t : Takes BusField w at s) where
-    pub bus-off : s .end ≡ 0 → Steps w at (Continues (known stage.Bus 0 0 0 out)) (behind 0 stage.Mark 0 0 (seen out 0))
+    pub bus-off : s .end ≡ 0 → Steps w at (Continues (known stage.Bus 0 0 0 out)) (behind 0 stage.TypeColumn 0 0 (seen out 0))
     bus-off z = refused _ t z refl (λ f fs r h. (r .bus, after-bus (h .1) .0))
 
-    pub bus-on : {new : List ℕ} → s .end ≢ 0 → Puts 1 (s .value) out new
-        → Steps w at (Continues (known stage.Bus 0 0 0 out)) (behind (s .end) stage.Mark 0 0 (seen new 0))
+    pub bus-on : {new : List ℕ} → s .end ≢ 0 → PutsSlot 1 (s .value) out new
+        → Steps w at (Continues (known stage.Bus 0 0 0 out)) (behind (s .end) stage.TypeColumn 0 0 (seen new 0))
     bus-on {new} n u = let x = u .slots in bus-went (known stage.Bus 0 0 0 out) (seen new 0) (cc (x)) (cc (x)) refl (got t n)
 
   -- `Rx`, `Tx`, `Warng` or `Error`.
-  module _ (g : Ready stage.Mark 0 0 0 out) (t : Takes MarkField w at s) where
-    pub mark-off : s .end ≡ 0 → Steps w at (Continues (known stage.Mark 0 0 0 out)) (behind 0 stage.Id 0 0 (seen out 0))
-    mark-off z = refused _ t z refl (λ f fs r h. some-mark (h .1))
+  module _ (g : Ready stage.TypeColumn 0 0 0 out) (t : Takes TypeField w at s) where
+    pub type-off : s .end ≡ 0 → Steps w at (Continues (known stage.TypeColumn 0 0 0 out)) (behind 0 stage.Id 0 0 (seen out 0))
+    type-off z = refused _ t z refl (λ f fs r h. some-type (h .1))
 
-    pub frame-on : {new : List ℕ} → s .end ≢ 0 → s .value ≤ 1 → Puts 2 (s .value) out new
-        → Steps w at (Continues (known stage.Mark 0 0 0 out)) (behind (s .end) stage.Id 0 0 (seen new 0))
+    pub frame-on : {new : List ℕ} → s .end ≢ 0 → s .value ≤ 1 → PutsSlot 2 (s .value) out new
+        → Steps w at (Continues (known stage.TypeColumn 0 0 0 out)) (behind (s .end) stage.Id 0 0 (seen new 0))
     frame-on {new} n l u =
         let x = u .slots in
-        mark-frame (known stage.Mark 0 0 0 out) (got t n) (seen new 0) l (cc (x)) (cc (x)) refl
+        type-frame (known stage.TypeColumn 0 0 0 out) (got t n) (seen new 0) l (cc (x)) (cc (x)) refl
 
-    pub warning-on : s .end ≢ 0 → s .value ≡ 2 → Steps w at (Continues (known stage.Mark 0 0 0 out)) (behind (s .end) stage.WarningId 0 0 (seen out 0))
-    warning-on n e = mark-warning (known stage.Mark 0 0 0 out) (got t n) e refl
+    pub warning-on : s .end ≢ 0 → s .value ≡ 2 → Steps w at (Continues (known stage.TypeColumn 0 0 0 out)) (behind (s .end) stage.WarningId 0 0 (seen out 0))
+    warning-on n e = type-warning (known stage.TypeColumn 0 0 0 out) (got t n) e refl
 
-    pub error-on : s .end ≢ 0 → 2 < s .value → Steps w at (Continues (known stage.Mark 0 0 0 out)) (behind (s .end) stage.ErrorId 0 0 (seen out 0))
-    error-on n l = mark-error (known stage.Mark 0 0 0 out) (got t n) l refl
+    pub error-on : s .end ≢ 0 → 2 < s .value → Steps w at (Continues (known stage.TypeColumn 0 0 0 out)) (behind (s .end) stage.ErrorId 0 0 (seen out 0))
+    error-on n l = type-error (known stage.TypeColumn 0 0 0 out) (got t n) l refl
 
   -- The ID of a frame.
   module _ (g : Ready stage.Id 0 0 0 out) (t : Takes HexField w at s) where
@@ -160,7 +160,7 @@ module _ {w : List ℕ} {at : ℕ} {s : Scan} {out : List ℕ} where
     formed (long a b e) l = eight a e b
     formed (neither a b e) l = absurd (omega arith)
 
-    pub id-on : {x : ℕ} {mid new : List ℕ} → s .end ≢ 0 → FormOf (s .value) (s .end - at) x → x ≤ 1 → Puts 3 x out mid → Puts 4 (s .value) mid new
+    pub id-on : {x : ℕ} {mid new : List ℕ} → s .end ≢ 0 → FormOf (s .value) (s .end - at) x → x ≤ 1 → PutsSlot 3 x out mid → PutsSlot 4 (s .value) mid new
         → Steps w at (Continues (known stage.Id 0 0 0 out)) (behind (s .end) stage.Length 0 0 (seen new 0))
     id-on {x} {mid} {new} n f l u v =
         let y = u .slots in
@@ -173,7 +173,7 @@ module _ {w : List ℕ} {at : ℕ} {s : Scan} {out : List ℕ} where
     pub length-off : s .end ≡ 0 → Steps w at (Continues (known stage.Length 0 0 0 out)) (behind 0 stage.Data 0 0 (seen out 0))
     length-off z = refused _ t z refl (λ f fs r h. (r .len, after-length (h .1) .0))
 
-    pub length-on : {new : List ℕ} → s .end ≢ 0 → Puts 5 (s .value) out new
+    pub length-on : {new : List ℕ} → s .end ≢ 0 → PutsSlot 5 (s .value) out new
         → Steps w at (Continues (known stage.Length 0 0 0 out)) (behind (s .end) stage.Data (s .value) (256 ^ 7) (seen new 0))
     length-on {new} n u =
         let x = u .slots in
@@ -253,7 +253,7 @@ module _ {w : List ℕ} {at : ℕ} {s : Scan} {out : List ℕ} where
         → Steps w at (Continues (known stage.ErrorId 0 0 0 out)) (behind 0 stage.ErrorLength 0 0 (seen out 0))
     error-id-none n f = error-id-barred (known stage.ErrorId 0 0 0 out) _ refl f (got t n)
 
-    pub error-id-on : {mid new : List ℕ} → s .end ≢ 0 → s .end - at ≡ 4 → ErrorId (s .value) → Puts 3 0 out mid → Puts 4 (s .value) mid new
+    pub error-id-on : {mid new : List ℕ} → s .end ≢ 0 → s .end - at ≡ 4 → ErrorId (s .value) → PutsSlot 3 0 out mid → PutsSlot 4 (s .value) mid new
         → Steps w at (Continues (known stage.ErrorId 0 0 0 out)) (behind (s .end) stage.ErrorLength 0 0 (seen new 0))
     error-id-on {mid} {new} n e v a b =
         let x = a .slots in
@@ -268,7 +268,7 @@ module _ {w : List ℕ} {at : ℕ} {s : Scan} {out : List ℕ} where
     pub error-length-none : s .end ≢ 0 → s .value ≢ 4 → Steps w at (Continues (known stage.ErrorLength 0 0 0 out)) (behind 0 stage.ErrorFirst 0 0 (seen out 0))
     error-length-none n f = error-length-barred (known stage.ErrorLength 0 0 0 out) _ refl f (got t n)
 
-    pub error-length-on : {mid new : List ℕ} → s .end ≢ 0 → s .value ≡ 4 → Puts 2 5 out mid → Puts 5 4 mid new
+    pub error-length-on : {mid new : List ℕ} → s .end ≢ 0 → s .value ≡ 4 → PutsSlot 2 5 out mid → PutsSlot 5 4 mid new
         → Steps w at (Continues (known stage.ErrorLength 0 0 0 out)) (behind (s .end) stage.ErrorFirst 0 0 (seen new 0))
     error-length-on {mid} {new} n e a b =
         let x = a .slots in

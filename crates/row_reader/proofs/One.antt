@@ -5,7 +5,7 @@ use mathlib.Core.List.{List}
 use Rattle.row.proofs.One.{row-one}
 use Rattle.row_reader.specs.declared.Reading.{Reading}
 use Rattle.row_reader.specs.declared.Reading.the-variants.{Is, Not}
-use Rattle.row_reader.specs.Answer.{ReadsRow}
+use Rattle.row_reader.specs.inner.Answer.{ReadsRow}
 
 -- A line is read as one record, or as none.
 pub one-reading : (v k : ℕ) (line : List ℕ) (a b : Reading) → ReadsRow v k line a → ReadsRow v k line b → a ≡ b

@@ -5,7 +5,7 @@ use mathlib.Core.List.{List, [], _∷_}
 use native.Mathlib.Omega.{arith}
 use lib.ListN.{length, getD, set}
 use Rattle.record.specs.Promise.{fieldsOf}
-use Rattle.row_reader.specs.Chain.{seen, Puts, PutsRemote, PutsWarning}
+use Rattle.row_reader.specs.inner.Chain.{seen, PutsSlot, PutsRemote, PutsWarning}
 
 -- a list of seven
 pub data Seven : List ℕ → Type 0 where
@@ -22,10 +22,10 @@ is-seven (a ∷ b ∷ c ∷ d ∷ e ∷ f ∷ []) h = absurd (omega arith)
 is-seven (a ∷ b ∷ c ∷ d ∷ e ∷ f ∷ g ∷ []) h = seven
 is-seven (a ∷ b ∷ c ∷ d ∷ e ∷ f ∷ g ∷ h ∷ l) k = absurd (omega arith)
 
-pub puts : (l : List ℕ) (i v : ℕ) → length l ≡ 7 → i < 6 → Puts i v l (set l i v)
+pub puts : (l : List ℕ) (i v : ℕ) → length l ≡ 7 → i < 6 → PutsSlot i v l (set l i v)
 puts l i v h = go l i (is-seven l h)
   where
-    go : (l : List ℕ) (i : ℕ) → Seven l → i < 6 → Puts i v l (set l i v)
+    go : (l : List ℕ) (i : ℕ) → Seven l → i < 6 → PutsSlot i v l (set l i v)
     go _ zero seven k = record { slots = refl }
     go _ (suc zero) seven k = record { slots = refl }
     go _ (suc (suc zero)) seven k = record { slots = refl }

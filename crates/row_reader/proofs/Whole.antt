@@ -9,18 +9,18 @@ use native.Mathlib.Decide.{ℕ-discrete}
 use lib.ListN.{length, getD, take, drop, set, length-append, length-drop}
 use lib.Seq.{take-suc, take-length, drop-cons, set-at, append-snoc, length-take-le}
 use Rattle.fields.specs.Runs.{All, empty, more}
-use Rattle.fields.specs.Window.{NoEnd, LineOf}
+use Rattle.fields.specs.inner.Window.{NoEnd, LineBeforeCr}
 use Rattle.record.specs.declared.Record.{Record}
 use Rattle.record.specs.Record.{recordOf}
 use Rattle.row.specs.Row.{Row}
 use Rattle.row.proofs.Plain.{row-plain}
-use Rattle.row_reader.specs.Answer.{RowFound, row-found, no-row}
+use Rattle.row_reader.specs.inner.Answer.{RowFound, row-found, no-row}
 use Rattle.fields.proofs.Runs.{all-map}
 
 -- The line that stands before the first CR: all of s, or less of it, and then a CR stands behind it in s.
 pub record Framed (s rest : List ℕ) : Type 0 where
   pub line : List ℕ
-  pub is : LineOf line (s ++ (13 ∷ rest))
+  pub is : LineBeforeCr line (s ++ (13 ∷ rest))
   pub all : (line ≡ s) ⊎ ((more : List ℕ) × (s ≡ line ++ (13 ∷ more)))
 
 pub framed : (s rest : List ℕ) → Framed s rest
@@ -74,7 +74,7 @@ filled-length {s} {before} {now} {n} {i} f =
 
 -- The answer for a line that is not read to its end, and for one that is.
 
-pub not-read : {v k e : ℕ} {s out : List ℕ} (rest : List ℕ) → ((line : List ℕ) → LineOf line (s ++ (13 ∷ rest)) → RowFound v k 0 line out e)
+pub not-read : {v k e : ℕ} {s out : List ℕ} (rest : List ℕ) → ((line : List ℕ) → LineBeforeCr line (s ++ (13 ∷ rest)) → RowFound v k 0 line out e)
     → (e ≡ length s + 1 → ⊥) → (r : Record) → Row v k r s → ⊥
 not-read {v} {k} {e} {s} {out} rest f n r w = let x = framed s rest in go (x .all) (f (x .line) (x .is))
   where
@@ -86,7 +86,7 @@ not-read {v} {k} {e} {s} {out} rest f n r w = let x = framed s rest in go (x .al
     go (inl q) (row-found u o z) = n (omega (arith, ap length q))
     go (inl q) (no-row z g) = g r (rw (← q) at w)
 
-pub is-read : {v k e : ℕ} {s out : List ℕ} (rest : List ℕ) → ((line : List ℕ) → LineOf line (s ++ (13 ∷ rest)) → RowFound v k 0 line out e)
+pub is-read : {v k e : ℕ} {s out : List ℕ} (rest : List ℕ) → ((line : List ℕ) → LineBeforeCr line (s ++ (13 ∷ rest)) → RowFound v k 0 line out e)
     → e ≡ length s + 1 → Row v k (recordOf out) s
 is-read {v} {k} {e} {s} {out} rest f z = let x = framed s rest in go (x .all) (f (x .line) (x .is))
   where

@@ -7,9 +7,9 @@ use fields::at_end;
 use fields::skip_in;
 use row::FIRST_PLACE;
 ghost use lib.ListN.{drop};
-ghost use Rattle.fields.specs.Window.{Lined, Starts};
+ghost use Rattle.fields.specs.inner.Window.{Lined, Starts};
 ghost use Rattle.row.specs.declared.Stage.the-variants as stage;
-ghost use Rattle.row_reader.specs.Chain.{Ready, known, Goes};
+ghost use Rattle.row_reader.specs.inner.Chain.{Ready, known, Goes};
 
 // The place value of the third of eight data bytes: 256 ^ 5.
 const THIRD_PLACE: u64 = 1099511627776;

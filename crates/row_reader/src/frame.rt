@@ -8,9 +8,9 @@ use fields::skip_in;
 use row::FIRST_PLACE;
 ghost use Prim.Native.Nat.{_^_};
 ghost use lib.ListN.{drop};
-ghost use Rattle.fields.specs.Window.{Lined, Starts};
+ghost use Rattle.fields.specs.inner.Window.{Lined, Starts};
 ghost use Rattle.row.specs.declared.Stage.the-variants as stage;
-ghost use Rattle.row_reader.specs.Chain.{Ready, known, Goes, FormOf};
+ghost use Rattle.row_reader.specs.inner.Chain.{Ready, known, Goes, FormOf};
 
 // The place value of the second of eight data bytes: 256 ^ 6.
 pub const SECOND_PLACE: u64 = 281474976710656;

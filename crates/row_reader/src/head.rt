@@ -10,9 +10,9 @@ use row::fraction_digits;
 use row::has_bus;
 use row::is_version;
 ghost use lib.ListN.{drop};
-ghost use Rattle.fields.specs.Window.{Lined, Starts};
+ghost use Rattle.fields.specs.inner.Window.{Lined, Starts};
 ghost use Rattle.row.specs.declared.Stage.the-variants as stage;
-ghost use Rattle.row_reader.specs.Chain.{Ready, known, Goes, GoesRow};
+ghost use Rattle.row_reader.specs.inner.Chain.{Ready, known, Goes, GoesRow};
 
 // The row number. What follows it depends on the version.
 pub fn gap_number(w: &[u8; WINDOW], at: usize, version: u64, k: u64, out: &mut [u64; 7]) -> usize
@@ -70,7 +70,7 @@ fn field_offset(w: &[u8; WINDOW], at: usize, version: u64, out: &mut [u64; 7]) -
         return gap_bus(w, e, out);
     }
     put(out, 1, 0);
-    gap_mark(w, e, out)
+    gap_type(w, e, out)
 }
 
 // The bus.
@@ -95,26 +95,26 @@ fn field_bus(w: &[u8; WINDOW], at: usize, out: &mut [u64; 7]) -> usize
         return 0;
     }
     put(out, 1, s.value);
-    gap_mark(w, e, out)
+    gap_type(w, e, out)
 }
 
 // `Rx`, `Tx`, `Warng` or `Error`: frames, warnings and error frames part here.
-pub fn gap_mark(w: &[u8; WINDOW], at: usize, out: &mut [u64; 7]) -> usize
-    requires { ⌜ Lined (drop at (now w)) × Ready stage.Mark 0 0 0 (now out) ⌝ }
-    ensures { λ e. ⌜ Goes (known stage.Mark 0 0 0 (now (out .entry))) (now (w .entry)) at (now (out .exit)) e ⌝ }
+pub fn gap_type(w: &[u8; WINDOW], at: usize, out: &mut [u64; 7]) -> usize
+    requires { ⌜ Lined (drop at (now w)) × Ready stage.TypeColumn 0 0 0 (now out) ⌝ }
+    ensures { λ e. ⌜ Goes (known stage.TypeColumn 0 0 0 (now (out .entry))) (now (w .entry)) at (now (out .exit)) e ⌝ }
 {
     let a = skip_in(w, at);
     if at_end(w, a) {
         return 0;
     }
-    field_mark(w, a, out)
+    field_type(w, a, out)
 }
 
-fn field_mark(w: &[u8; WINDOW], at: usize, out: &mut [u64; 7]) -> usize
-    requires { ⌜ Starts (now w) at × Ready stage.Mark 0 0 0 (now out) ⌝ }
-    ensures { λ e. ⌜ Goes (known stage.Mark 0 0 0 (now (out .entry))) (now (w .entry)) at (now (out .exit)) e ⌝ }
+fn field_type(w: &[u8; WINDOW], at: usize, out: &mut [u64; 7]) -> usize
+    requires { ⌜ Starts (now w) at × Ready stage.TypeColumn 0 0 0 (now out) ⌝ }
+    ensures { λ e. ⌜ Goes (known stage.TypeColumn 0 0 0 (now (out .entry))) (now (w .entry)) at (now (out .exit)) e ⌝ }
 {
-    let s = fields::mark_field(w, at);
+    let s = fields::type_field(w, at);
     let e = s.end;
     if e == 0 {
         return 0;

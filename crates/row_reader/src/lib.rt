@@ -15,9 +15,9 @@ ghost use mathlib.Core.Path.{_≡_};
 ghost use mathlib.Core.List.{List, _∷_, _++_};
 ghost use Prim.Native.Nat.{ℕ, _+_, _<_};
 ghost use lib.ListN.{length, drop};
-ghost use Rattle.fields.specs.Window.{windowBytes, LineOf, Lined};
+ghost use Rattle.fields.specs.inner.Window.{windowBytes, LineBeforeCr, Lined};
 ghost use Rattle.base.specs.Text.{cr};
-ghost use Rattle.row_reader.specs.Answer.{ReadsRow, RowFound};
+ghost use Rattle.row_reader.specs.inner.Answer.{ReadsRow, RowFound};
 
 // A record, or not a row.
 pub enum Reading {
@@ -29,7 +29,7 @@ pub enum Reading {
 // then `out` is scratch.
 pub fn row_in(w: &[u8; WINDOW], at: usize, version: u64, k: u64, out: &mut [u64; 7]) -> usize
     requires { ⌜ Lined (drop at (now w)) ⌝ }
-    ensures { λ e. ⌜ ((line : List ℕ) → LineOf line (drop at (now (w .entry))) → RowFound version k at line (now (out .exit)) e) ⌝ }
+    ensures { λ e. ⌜ ((line : List ℕ) → LineBeforeCr line (drop at (now (w .entry))) → RowFound version k at line (now (out .exit)) e) ⌝ }
 {
     head::gap_number(w, at, version, k, out)
 }

@@ -1,13 +1,13 @@
 // The record's fields, in the order of `of_fields`, as they are read: a slot is put as soon as its column is.
 ghost use Prim.Native.Nat.{_<_, _≤_};
 ghost use lib.ListN.{getD};
-ghost use Rattle.fields.specs.Window.{windowBytes};
-ghost use Rattle.row_reader.specs.Chain.{seen, Puts, PutsRemote, PutsWarning, Finished};
+ghost use Rattle.fields.specs.inner.Window.{windowBytes};
+ghost use Rattle.row_reader.specs.inner.Chain.{seen, PutsSlot, PutsRemote, PutsWarning, Finished};
 
 // Puts the slot of one column before the data.
 pub fn put(out: &mut [u64; 7], i: usize, v: u64)
     requires { ⌜ i < 6 ⌝ }
-    ensures { λ _. ⌜ Puts i v (now (out .entry)) (now (out .exit)) ⌝ }
+    ensures { λ _. ⌜ PutsSlot i v (now (out .entry)) (now (out .exit)) ⌝ }
 {
     let slots: &mut [u64] = out;
     slots[i] = v;

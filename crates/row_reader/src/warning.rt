@@ -6,9 +6,9 @@ use fields::at_end;
 use fields::skip_in;
 use row::FIRST_PLACE;
 ghost use lib.ListN.{drop};
-ghost use Rattle.fields.specs.Window.{Lined, Starts};
+ghost use Rattle.fields.specs.inner.Window.{Lined, Starts};
 ghost use Rattle.row.specs.declared.Stage.the-variants as stage;
-ghost use Rattle.row_reader.specs.Chain.{Ready, known, Goes};
+ghost use Rattle.row_reader.specs.inner.Chain.{Ready, known, Goes};
 
 // The eight F.
 pub fn gap_warning_id(w: &[u8; WINDOW], at: usize, out: &mut [u64; 7]) -> usize

@@ -14,8 +14,8 @@ use Rattle.base.proofs.Spaced.{spaced-none, spaced-more}
 use Rattle.digits.specs.House.{decimalText, paddedText}
 use Rattle.digits.proofs.House.{length-fixed}
 use Rattle.record.specs.declared.Record.{Record}
-use Rattle.fields.specs.Columns.{markWarng, markError, remoteText}
-use Rattle.row.specs.House.{numberText, offsetText, busTexts, markText, idText, dataTexts}
+use Rattle.fields.specs.Columns.{typeWarng, typeError, remoteText}
+use Rattle.row.specs.House.{numberText, offsetText, busTexts, typeText, idText, dataTexts}
 use Rattle.row.specs.Versions.{fractionDigits, hasBus}
 use Rattle.row.proofs.EachVersion.{digits-known}
 use Rattle.row.proofs.Texts.{number-text, offset-text, id-warning, id-frame, data-remote}
@@ -43,27 +43,27 @@ pub without-bus : (v n : ℕ) → hasBus v ≡ false → spaced (busTexts v n) �
 unfolding busTexts
 without-bus v n e = rw (e, spaced-none)
 
-pub frame-mark : (kind : ℕ) → kind < 4 → markText kind ≡ (82 + 2 * (kind % 2)) ∷ 120 ∷ []
-unfolding markText
-frame-mark zero h = refl
-frame-mark (suc zero) h = refl
-frame-mark (suc (suc zero)) h = refl
-frame-mark (suc (suc (suc zero))) h = refl
-frame-mark (suc (suc (suc (suc n)))) h = absurd (omega arith)
+pub frame-type : (kind : ℕ) → kind < 4 → typeText kind ≡ (82 + 2 * (kind % 2)) ∷ 120 ∷ []
+unfolding typeText
+frame-type zero h = refl
+frame-type (suc zero) h = refl
+frame-type (suc (suc zero)) h = refl
+frame-type (suc (suc (suc zero))) h = refl
+frame-type (suc (suc (suc (suc n)))) h = absurd (omega arith)
 
-pub warng : (kind : ℕ) → kind ≡ 4 → markText kind ≡ markWarng
-unfolding markText
+pub warng : (kind : ℕ) → kind ≡ 4 → typeText kind ≡ typeWarng
+unfolding typeText
 warng kind e = rw e
 
-pub error : (kind : ℕ) → kind ≡ 5 → markText kind ≡ markError
-unfolding markText
+pub error : (kind : ℕ) → kind ≡ 5 → typeText kind ≡ typeError
+unfolding typeText
 error kind e = rw e
 
-pub short-mark : (kind : ℕ) → kind < 4 → length (markText kind) ≡ 2
-short-mark kind h = ap length (frame-mark kind h)
+pub short-type : (kind : ℕ) → kind < 4 → length (typeText kind) ≡ 2
+short-type kind h = ap length (frame-type kind h)
 
-pub long-mark : (kind : ℕ) → 4 ≤ kind → kind ≤ 5 → length (markText kind) ≡ 5
-long-mark kind h l = ⊎-elim (λ p. ap length (warng kind (omega arith))) (λ p. ap length (error kind (omega arith))) (below-or-not kind 5)
+pub long-type : (kind : ℕ) → 4 ≤ kind → kind ≤ 5 → length (typeText kind) ≡ 5
+long-type kind h l = ⊎-elim (λ p. ap length (warng kind (omega arith))) (λ p. ap length (error kind (omega arith))) (below-or-not kind 5)
 
 pub length-warning-id : (r : Record) → r .kind ≡ 4 → length (idText r) ≡ 8
 length-warning-id r e = rw (id-warning r e, length-fixed)

@@ -1,4 +1,4 @@
--- The row as the writer puts it together: the fields before the mark, then those from the mark on, each behind one blank.
+-- The row as the writer puts it together: the fields before the type, then those from the type on, each behind one blank.
 use Prim.Native.Nat.{ℕ, _+_}
 use mathlib.Core.Path.{_≡_, ap, _∙_}
 use mathlib.Core.List.{List, _∷_, _++_, append-assoc}
@@ -7,8 +7,8 @@ use lib.ListN.{length, length-append}
 use Rattle.base.specs.Spaced.{spaced, joined}
 use Rattle.base.proofs.Spaced.{spaced-more, spaced-append, joined-more}
 use Rattle.record.specs.declared.Record.{Record}
-use Rattle.row.specs.House.{numberText, offsetText, busTexts, markText, idText, dataTexts, frameTexts, rowTexts, rowText}
-use Rattle.row_writer.specs.Parts.{headTexts}
+use Rattle.row.specs.House.{numberText, offsetText, busTexts, typeText, idText, dataTexts, frameTexts, rowTexts, rowText}
+use Rattle.row_writer.specs.inner.Parts.{headTexts}
 
 -- The row is what is written.
 
@@ -24,7 +24,7 @@ pub head-cut : (v k : ℕ) (r : Record)
 head-cut v k r = rw (joined-more, spaced-more)
 
 pub frame-cut : (r : Record)
-    → spaced (frameTexts r) ≡ (32 ∷ markText (r .kind)) ++ ((32 ∷ idText r) ++ (32 ∷ (48 + r .len) ∷ spaced (dataTexts r)))
+    → spaced (frameTexts r) ≡ (32 ∷ typeText (r .kind)) ++ ((32 ∷ idText r) ++ (32 ∷ (48 + r .len) ∷ spaced (dataTexts r)))
 frame-cut r = rw (spaced-more, spaced-more, spaced-more)
 
 -- Its length is the sum of the parts'.
@@ -39,5 +39,5 @@ head-length v k r =
     rw (head-cut, length-append) (ap (λ (n : ℕ). length (numberText k) + n) e)
 
 pub frame-length : (r : Record)
-    → length (spaced (frameTexts r)) ≡ length (32 ∷ markText (r .kind)) + length (32 ∷ idText r) + 2 + length (spaced (dataTexts r))
+    → length (spaced (frameTexts r)) ≡ length (32 ∷ typeText (r .kind)) + length (32 ∷ idText r) + 2 + length (spaced (dataTexts r))
 frame-length r = rw (frame-cut, length-append, length-append) (omega arith)

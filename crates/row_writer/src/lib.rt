@@ -15,15 +15,16 @@ ghost use mathlib.Core.Path.{_≡_};
 ghost use mathlib.Core.List.{_∷_};
 ghost use Prim.Native.Nat.{_+_, _/_, _≤_};
 ghost use lib.ListN.{length};
+ghost use Rattle.digits.specs.inner.Pairs.{PairsOf};
 ghost use Rattle.base.specs.Spaced.{spaced, joined};
 ghost use Rattle.base.specs.Text.{blank};
-ghost use Rattle.base.specs.Wrote.{Wrote};
+ghost use Rattle.base.specs.inner.Wrote.{Wrote};
 ghost use Rattle.digits.specs.declared.Letters.the-variants.{Capital};
-ghost use Rattle.digits.specs.House.{PairsOf, Kept};
+ghost use Rattle.digits.specs.House.{Kept};
 ghost use Rattle.fields.specs.Columns.{lastNumber};
 ghost use Rattle.record.specs.Record.{WellFormed};
-ghost use Rattle.row.specs.House.{numberText, offsetText, busTexts, markText, idText, dataTexts, frameTexts, rowText};
-ghost use Rattle.row_writer.specs.Parts.{headTexts};
+ghost use Rattle.row.specs.House.{numberText, offsetText, busTexts, typeText, idText, dataTexts, frameTexts, rowText};
+ghost use Rattle.row_writer.specs.inner.Parts.{headTexts};
 ghost use Rattle.row.specs.Versions.{Carries};
 
 // Row number and `)`. Its digits before the last are at hand: the first t of `tens`.
@@ -93,9 +94,9 @@ fn bus_length(version: u64, bus: u64) -> usize
 
 // `Rx`, `Tx`, `Warng` or `Error`. No branch tells `R` from `T`, which is two behind it: rows mix the two, and a branch that cannot be
 // predicted is slow.
-fn put_mark(out: &mut [u8], at: usize, kind: u64) -> usize
-    requires { ⌜ (kind ≤ 5) × (at + length (blank ∷ markText kind) ≤ length (now out)) ⌝ }
-    ensures { λ r. ⌜ Wrote (now (out .entry)) (now (out .exit)) at r (blank ∷ markText kind) ⌝ }
+fn put_type(out: &mut [u8], at: usize, kind: u64) -> usize
+    requires { ⌜ (kind ≤ 5) × (at + length (blank ∷ typeText kind) ≤ length (now out)) ⌝ }
+    ensures { λ r. ⌜ Wrote (now (out .entry)) (now (out .exit)) at r (blank ∷ typeText kind) ⌝ }
 {
     if kind < 4 {
         return put_three(out, at, b' ', b'R' + 2 * (kind % 2) as u8, b'x');
@@ -108,9 +109,9 @@ fn put_mark(out: &mut [u8], at: usize, kind: u64) -> usize
     put_three(out, q, b'r', b'o', b'r')
 }
 
-fn mark_length(kind: u64) -> usize
+fn type_length(kind: u64) -> usize
     requires { ⌜ kind ≤ 5 ⌝ }
-    ensures { λ r. ⌜ (r ≡ length (blank ∷ markText kind)) × (r ≤ 6) ⌝ }
+    ensures { λ r. ⌜ (r ≡ length (blank ∷ typeText kind)) × (r ≤ 6) ⌝ }
 {
     if kind < 4 {
         return 3;
@@ -163,7 +164,7 @@ fn data_length(r: Record) -> usize
     3 * r.len as usize
 }
 
-// The fields before the mark.
+// The fields before the type.
 fn put_head(
     out: &mut [u8],
     at: usize,
@@ -185,13 +186,13 @@ fn put_head(
     put_bus(out, q, version, r.bus)
 }
 
-// The fields from the mark on, each behind one blank.
+// The fields from the type on, each behind one blank.
 fn put_frame(out: &mut [u8], at: usize, r: Record, pairs: &[u8; 512]) -> usize
     requires { ⌜ WellFormed r × (at + length (spaced (frameTexts r)) ≤ length (now out)) ⌝ }
     requires { ⌜ PairsOf Capital (now pairs) ⌝ }
     ensures { λ e. ⌜ Wrote (now (out .entry)) (now (out .exit)) at e (spaced (frameTexts r)) ⌝ }
 {
-    let p = put_mark(out, at, r.kind);
+    let p = put_type(out, at, r.kind);
     let q = put_id(out, p, r);
     let s = put_byte(out, q, b' ');
     let t = put_byte(out, s, b'0' + r.len as u8);
@@ -204,7 +205,7 @@ pub fn row_length(version: u64, k: u64, r: Record) -> usize
     ensures { λ n. ⌜ n ≡ length (rowText version k r) ⌝ }
 {
     let head = number_length(k) + offset_length(version, r.offset) + bus_length(version, r.bus);
-    let frame = mark_length(r.kind) + id_length(r) + 2 + data_length(r);
+    let frame = type_length(r.kind) + id_length(r) + 2 + data_length(r);
     head + frame
 }
 

@@ -5,7 +5,7 @@ use mathlib.Core.List.{List, [], _++_}
 use native.Mathlib.Omega.{arith}
 use lib.ListN.{length}
 use lib.Seq.{length-sets}
-use Rattle.base.specs.Wrote.{Wrote}
+use Rattle.base.specs.inner.Wrote.{Wrote}
 use Rattle.base.proofs.Lists.{then}
 use Rattle.testing.specs.Putting.{Puts}
 

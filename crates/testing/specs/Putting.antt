@@ -3,7 +3,7 @@ use Prim.Native.Nat.{ℕ, _+_, _≤_, _<_}
 use mathlib.Core.Path.{_≡_}
 use mathlib.Core.List.{List}
 use lib.ListN.{length}
-use Rattle.base.specs.Wrote.{Wrote}
+use Rattle.base.specs.inner.Wrote.{Wrote}
 
 -- The bytes s were put at position i, or there is no room for them and nothing changed; j is the position after what was put.
 pub data PutOrNot (before after : List ℕ) (i j : ℕ) (s : List ℕ) : Type 0 where

@@ -6,7 +6,7 @@ use mathlib.Core.Bool.{cond}
 use mathlib.Core.List.{List, [], _∷_}
 use lib.Dec.{eqb}
 use lib.ListN.{length, getD}
-use Rattle.digits.specs.Answer.{ReadDecimal, ReadHex}
+use Rattle.digits.specs.inner.Answer.{ReadDecimal, ReadHex}
 use Rattle.digits.specs.Digits.{Digits}
 
 -- r is the first place from `at` on where the byte b stands in s, or the end of s.

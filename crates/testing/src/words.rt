@@ -6,7 +6,7 @@ use digits::read_hex;
 ghost use mathlib.Core.Path.{_≡_};
 ghost use Prim.Native.Nat.{ℕ, _+_, _*_, _≤_, _<_};
 ghost use lib.ListN.{length, getD, take, drop};
-ghost use Rattle.digits.specs.Answer.{ReadDecimal, ReadHex};
+ghost use Rattle.digits.specs.inner.Answer.{ReadDecimal, ReadHex};
 ghost use Rattle.testing.specs.Words.{FirstFrom, before, behind, skipped, word, Or0, ValueOf, KeyOf};
 
 // The first place of a byte from a place on, or the end.

@@ -8,9 +8,9 @@ use lib.ListN.{length}
 use Rattle.base.specs.Limits.{offsetLimit}
 use Rattle.record.specs.declared.Record.{Record}
 use Rattle.record.specs.Record.{WellFormed}
-use Rattle.records.specs.Records.{none, more, Holds}
+use Rattle.records.specs.Records.{none, more, PacksAll}
 use Rattle.records.specs.StepBack.{backFrom, stepBack}
-use Rattle.records.proofs.Records.{holds-one}
+use Rattle.records.proofs.Records.{packs-all-one}
 use Rattle.fields.specs.Runs.{empty}
 use Rattle.row.specs.Row.{Row}
 use Rattle.row.specs.Versions.{is11, is12, versionText, Carries, v12}
@@ -28,16 +28,16 @@ use Rattle.trace_writer.specs.Promise.{WritePromise}
 use Rattle.trace_writer.proofs.Answers as writing
 use Rattle.ascii.specs.Promise.{lineCount, ExportPromise}
 use Rattle.ascii.proofs.Answers as exporting
-use Rattle.tightness.specs.Tight.{received}
+use Rattle.tightness.specs.Tight.{received12}
 use Rattle.tightness.proofs.Tried.{received-formed, received-carried}
 
 -- read
 
 -- offsets 3, 2 and 1: the first step back is row 2, and not the last, row 3
 abbrev pub falling : Trace
-falling = traceOf 12 0 (received 3 1 ∷ received 2 1 ∷ received 1 1 ∷ [])
+falling = traceOf 12 0 (received12 3 1 ∷ received12 2 1 ∷ received12 1 1 ∷ [])
 
-formed : (offset : ℕ) → offset ≤ offsetLimit → WellFormed (received offset 1)
+formed : (offset : ℕ) → offset ≤ offsetLimit → WellFormed (received12 offset 1)
 formed offset h = received-formed offset 1 h (omega arith)
 
 falling-writable : Writable falling
@@ -114,8 +114,8 @@ pub export-touched : {start : ℕ} {s before after : List ℕ} → ExportPromise
 export-touched p n = n (exporting.untouched (λ e. omega arith) p)
 
 -- one line more than there are records of kinds 0 and 1
-pub one-line-more : {start bytes left : ℕ} {s before after : List ℕ} {rs : List Record} → Holds rs s
+pub one-line-more : {start bytes left : ℕ} {s before after : List ℕ} {rs : List Record} → PacksAll rs s
     → ExportPromise start s before (0 ∷ 0 ∷ bytes ∷ suc (lineCount rs) ∷ left ∷ []) after → ⊥
 one-line-more h p =
     let (qs, k, e, d) = exporting.counted p in
-    omega (arith, e, ap lineCount (holds-one k h))
+    omega (arith, e, ap lineCount (packs-all-one k h))

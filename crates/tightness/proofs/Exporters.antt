@@ -5,11 +5,11 @@ use mathlib.Core.Logic.{⊎-elim}
 use mathlib.Core.List.{List, [], _∷_}
 use native.Mathlib.Omega.{arith}
 use Rattle.record.specs.declared.Record.{Record}
-use Rattle.records.specs.Records.{Holds}
-use Rattle.records.proofs.Records.{holds-one}
-use Rattle.ascii.specs.Promise.{lineCount, leftCount, Stopped, ExportPromise}
+use Rattle.records.specs.Records.{PacksAll}
+use Rattle.records.proofs.Records.{packs-all-one}
+use Rattle.ascii.specs.Promise.{lineCount, leftCount, ExportStopped, ExportPromise}
 use Rattle.ascii.proofs.Exporting.{frame-line, frame-left}
-use Rattle.tightness.specs.Programs.{Exporter, Exports}
+use Rattle.tightness.specs.Programs.{Exporter, KeepsExport}
 use Rattle.tightness.specs.Wrong.{Counted, none, frame, other, InventsLeftOut}
 
 -- The promise counts by that definition.
@@ -19,21 +19,21 @@ counts none = (refl, refl)
 counts (frame {r = r} k c) = let (a, b) = counts c in (omega (arith, frame-line r k), omega (arith, frame-line r k))
 counts (other {r = r} k c) = let (a, b) = counts c in (omega (arith, frame-left r k), omega (arith, frame-left r k))
 
-stopped-number : {start n p : ℕ} {s : List ℕ} → Stopped start s n p → 20 ≤ n
-stopped-number (Stopped.no-records f) = omega arith
-stopped-number (Stopped.late w l) = omega arith
-stopped-number (Stopped.malformed w l f) = omega arith
+stopped-number : {start n p : ℕ} {s : List ℕ} → ExportStopped start s n p → 20 ≤ n
+stopped-number (ExportStopped.no-records f) = omega arith
+stopped-number (ExportStopped.late w l) = omega arith
+stopped-number (ExportStopped.malformed w l f) = omega arith
 
 counts-true : {start n p m lines left : ℕ} {s before x : List ℕ} {rs : List Record}
-    → ExportPromise start s before (n ∷ p ∷ m ∷ lines ∷ left ∷ []) x → n ≡ 0 → Holds rs s → (lines ≡ lineCount rs) × (left ≡ leftCount rs)
+    → ExportPromise start s before (n ∷ p ∷ m ∷ lines ∷ left ∷ []) x → n ≡ 0 → PacksAll rs s → (lines ≡ lineCount rs) × (left ≡ leftCount rs)
 counts-true (ExportPromise.refused {n = i} f e q) z h = let d : 0 ≡ i = cc in absurd (omega (arith, stopped-number f))
 counts-true (ExportPromise.no-room g l e q) z h = let d : _≡_ {A = ℕ} 0 25 = cc in absurd (omega arith)
 counts-true (ExportPromise.done g l e q) z h =
-    let o = holds-one (g .holds) h in
+    let o = packs-all-one (g .packs) h in
     (cc (e, ap lineCount o), cc (e, ap leftCount o))
 
-pub invents-left-out : {e : Exporter} → Exports e → InventsLeftOut e → ⊥
+pub invents-left-out : {e : Exporter} → KeepsExport e → InventsLeftOut e → ⊥
 invents-left-out k i =
     let (a, b) = counts (i .counted) in
-    let (c, d) = counts-true (k .keeps (i .start) (i .given) (i .out)) (i .accepted) (i .holds) in
+    let (c, d) = counts-true (k .keeps (i .start) (i .given) (i .out)) (i .accepted) (i .packs) in
     ⊎-elim (λ f. f (c ∙ a)) (λ f. f (d ∙ b)) (i .invented)

@@ -7,7 +7,7 @@ use native.Mathlib.Omega.{arith}
 use lib.ListN.{length, getD}
 use Rattle.fields.specs.Runs.{All, more, Stops, halt, empty}
 use Rattle.fields.specs.Columns.{IdField, standard, long, Capital, remoteText, NumberField, OffsetField, BusField, LengthField}
-use Rattle.fields.specs.Window.{Solid, FieldAt}
+use Rattle.fields.specs.inner.Window.{Solid, FieldAt}
 use Rattle.record.specs.declared.Record.{Record}
 use Rattle.row.specs.Versions.{Version, is11, versionText, Carries, v11}
 use Rattle.row.specs.Row

@@ -8,7 +8,7 @@ use Rattle.trace.specs.Promise as reading
 use Rattle.trace_writer.specs.Promise as writing
 
 -- read: 2 to 7 are given with a line
-refused-at : {text : List ℕ} {n p : ℕ} → reading.Refused text n p → 1 ≤ p
+refused-at : {text : List ℕ} {n p : ℕ} → reading.RefusedAtLine text n p → 1 ≤ p
 refused-at (reading.unended r s f) = omega arith
 refused-at (reading.long r f s) = omega arith
 refused-at (reading.no-first r) = omega arith
@@ -26,14 +26,14 @@ line-lost n a b (reading.no-room l s r e u) = let z : n ≡ 8 = cc in omega arit
 line-lost n a b (reading.refused {p = p} l r e u) = let z : 0 ≡ p = cc in omega (arith, refused-at r)
 
 -- write: 23 and 24 are given with a record, and what is written is counted behind the place
-stopped-number : {version start n p : ℕ} {s : List ℕ} → writing.Stopped version start s n p → 20 ≤ n
+stopped-number : {version start n p : ℕ} {s : List ℕ} → writing.WriteStopped version start s n p → 20 ≤ n
 stopped-number (writing.no-records w) = omega arith
 stopped-number (writing.no-version w v) = omega arith
 stopped-number (writing.late w v l) = omega arith
 stopped-number (writing.malformed w v l f) = omega arith
 stopped-number (writing.misfit w v l h f) = omega arith
 
-stopped-at : {version start n p : ℕ} {s : List ℕ} → writing.Stopped version start s n p → 23 ≤ n → 1 ≤ p
+stopped-at : {version start n p : ℕ} {s : List ℕ} → writing.WriteStopped version start s n p → 23 ≤ n → 1 ≤ p
 stopped-at (writing.no-records w) h = absurd (omega arith)
 stopped-at (writing.no-version w v) h = absurd (omega arith)
 stopped-at (writing.late w v l) h = absurd (omega arith)
@@ -53,7 +53,7 @@ bytes-as-place (writing.no-room w s r e u) = let z : _≡_ {A = ℕ} 0 25 = cc i
 bytes-as-place {bytes = bytes} (writing.done w s r e u) = let z : suc bytes ≡ 0 = cc in omega arith
 
 -- unpack: 23 is given with record 1
-pub single-lost : {s : List ℕ} → single.UnpackPromise s (single.refused 23 0) → ⊥
+pub single-lost : {s : List ℕ} → single.UnpackPromise s (single.refusalNumbers 23 0) → ⊥
 single-lost (single.fields p e) = let z : _≡_ {A = ℕ} 23 0 = cc in omega arith
 single-lost (single.not-twenty n e) = let z : _≡_ {A = ℕ} 23 20 = cc in omega arith
 single-lost (single.malformed n f e) = let z : _≡_ {A = ℕ} 0 1 = cc in omega arith

@@ -6,10 +6,11 @@ use mathlib.Core.Logic.{_≢_, inl}
 use mathlib.Core.List.{List, [], _∷_}
 use native.Mathlib.Omega.{arith}
 use lib.ListN.{length, getD}
+use Rattle.digits.specs.inner.Pairs.{PairsOf}
 use Rattle.digits.specs.Digits.{DecimalDigit, Digits, HexDigit, IsHex, capital, small, figure, letter, none, more, Decimal, Padded}
 use Rattle.digits.specs.declared.Letters.{Letters}
 use Rattle.digits.specs.declared.Letters.the-variants.{Capital}
-use Rattle.digits.specs.House.{glyphOf, PairsOf, fixed, spell, paddedText, hexText, decimalText}
+use Rattle.digits.specs.House.{glyphOf, fixed, spell, paddedText, hexText, decimalText}
 use Rattle.record.specs.declared.Record.{Record}
 use Rattle.record.specs.Record.{recordOf, WellFormed, ErrorId, one, two, four, eight, Position, low, middle, high}
 

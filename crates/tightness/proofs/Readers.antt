@@ -17,13 +17,13 @@ use Rattle.trace.proofs.Answers as answers
 use Rattle.trace.proofs.Answers.{not-refused}
 use Rattle.trace.proofs.One.{one-trace}
 use Rattle.trace.proofs.There.{there, there-size}
-use Rattle.tightness.specs.Programs.{Bytes, Reader, Reads}
+use Rattle.tightness.specs.Programs.{Lent, Reader, KeepsRead}
 use Rattle.tightness.specs.Wrong.{RefusesAll, SameVersion, SameStart, SameRecords, CopiesFirst, InventsRows}
-use Rattle.tightness.specs.Tight.{HandsOut, received, Tried, empty, later, older, two, copied}
+use Rattle.tightness.specs.Tight.{HandsOut, received12, Tried, empty, later, older, two, copied}
 use Rattle.tightness.proofs.Tried.{received-formed, writable, zeros, textOf}
 
 -- What spells a trace is accepted, and that trace handed out.
-pub accepts : {f : Reader} {t : Trace} → Reads f → (text out : Bytes) → length (text .list) ≤ sizeLimit → Spells t (text .list)
+pub accepts : {f : Reader} {t : Trace} → KeepsRead f → (text out : Lent) → length (text .list) ≤ sizeLimit → Spells t (text .list)
     → 20 * length (t .records) ≤ length (out .list) → HandsOut t (f text out)
 accepts {f} {t} k text out h s r =
     let z = answers.accepts h s r (k .keeps text out) in
@@ -47,7 +47,7 @@ room two = omega arith
 room copied = omega arith
 
 -- Two records that differ are packed as other bytes.
-apart : bytes 20 (number (received 0 2)) ≡ bytes 20 (number (received 0 1)) → ⊥
+apart : bytes 20 (number (received12 0 2)) ≡ bytes 20 (number (received12 0 1)) → ⊥
 apart e =
     let z = one-record (packs (received-formed 0 2 (omega arith) (omega arith))) (record { formed = received-formed 0 1 (omega arith) (omega arith); packed = e }) in
     omega (arith, ap (λ (r : Record). r .id) z)
@@ -63,7 +63,7 @@ rows-true (ReadPromise.done h u r e q) z s = cc (e, ap (λ (t : Trace). length (
 rows-true (ReadPromise.no-room h u r e q) z s = let d : _≡_ {A = ℕ} 0 8 = cc in absurd (omega arith)
 rows-true (ReadPromise.refused h f e q) z s = absurd (not-refused h s f)
 
-module _ {f : Reader} (k : Reads f) where
+module _ {f : Reader} (k : KeepsRead f) where
   tries : {t : Trace} (w : Tried t) → HandsOut t (f (textOf w) (zeros 40))
   tries w = accepts k (textOf w) (zeros 40) (there-size (writable w)) (there (writable w)) (room w)
 
@@ -87,12 +87,12 @@ module _ {f : Reader} (k : Reads f) where
       let a = tries empty in
       let b = tries two in
       let e = sym (a .records) ∙ h (textOf empty) (textOf two) (zeros 40) (a .accepted) (b .accepted) ∙ b .records in
-      omega (arith, ap length e, packed-length [], packed-length (received 0 1 ∷ received 0 2 ∷ []))
+      omega (arith, ap length e, packed-length [], packed-length (received12 0 1 ∷ received12 0 2 ∷ []))
 
   pub copies-first : CopiesFirst f → ⊥
   copies-first h =
       let a = tries two in
-      apart (copy (received 0 1) (received 0 2) (a .records) (h (textOf two) (zeros 40) (a .accepted) 1 (omega (arith, a .rows))))
+      apart (copy (received12 0 1) (received12 0 2) (a .records) (h (textOf two) (zeros 40) (a .accepted) 1 (omega (arith, a .rows))))
 
   pub invents-rows : InventsRows f → ⊥
   invents-rows i = i .invented (rows-true (k .keeps (i .text) (i .out)) (i .accepted) (i .spelled))

@@ -68,7 +68,7 @@ real {t} h =
               after = x ++ drop (length x) (out .list);
             },
             refl,
-            ExportPromise.done (record { whole = whole w; limit = w .start; holds = record { formed = w .formed; bytes = refl }; exports = e })
+            ExportPromise.done (record { whole = whole w; limit = w .start; packs = record { formed = w .formed; bytes = refl }; exports = e })
                 (omega (arith, export-most (w .formed) e)) refl refl,
           );
     }

@@ -4,7 +4,7 @@ use mathlib.Core.Path.{_≡_}
 use Rattle.trace.proofs.Answers.{one-read}
 use Rattle.trace_writer.proofs.Answers.{one-write}
 use Rattle.ascii.proofs.Answers.{one-export}
-use Rattle.tightness.specs.Programs.{Bytes, FromReader, Reader, six, Reads, FromWriter, Writer, three, Writes, FromExporter, Exporter, five, Exports}
+use Rattle.tightness.specs.Programs.{Lent, FromReader, Reader, six, KeepsRead, FromWriter, Writer, three, KeepsWrite, FromExporter, Exporter, five, KeepsExport}
 
 -- The numbers and the output are all that a program gives.
 
@@ -34,14 +34,14 @@ same-exported a b (e, q) =
     let o : a .left ≡ b .left = cc in
     λ i. record { number = n i; place = p i; bytes = m i; lines = l i; left = o i; after = q i }
 
-pub one-reader : {f g : Reader} → Reads f → Reads g → (text out : Bytes) → f text out ≡ g text out
+pub one-reader : {f g : Reader} → KeepsRead f → KeepsRead g → (text out : Lent) → f text out ≡ g text out
 one-reader {f} {g} k j text out = same-read (f text out) (g text out) (one-read (k .keeps text out) (j .keeps text out))
 
-pub one-writer : {f g : Writer} → Writes f → Writes g → (version start : ℕ) (records out : Bytes)
+pub one-writer : {f g : Writer} → KeepsWrite f → KeepsWrite g → (version start : ℕ) (records out : Lent)
     → f version start records out ≡ g version start records out
 one-writer {f} {g} k j version start records out =
     same-written (f version start records out) (g version start records out) (one-write (k .keeps version start records out) (j .keeps version start records out))
 
-pub one-exporter : {f g : Exporter} → Exports f → Exports g → (start : ℕ) (records out : Bytes) → f start records out ≡ g start records out
+pub one-exporter : {f g : Exporter} → KeepsExport f → KeepsExport g → (start : ℕ) (records out : Lent) → f start records out ≡ g start records out
 one-exporter {f} {g} k j start records out =
     same-exported (f start records out) (g start records out) (one-export (k .keeps start records out) (j .keeps start records out))

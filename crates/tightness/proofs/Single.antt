@@ -6,9 +6,9 @@ use mathlib.Core.List.{List, [], _∷_, _++_}
 use native.Mathlib.Omega.{arith}
 use mathlib.Core.Bool.{true, false}
 use lib.ListN.{length, getD, drop}
-use Rattle.base.specs.Decides.{Decides}
+use Rattle.base.specs.inner.Decides.{Decides}
 use Rattle.digits.specs.Digits.{DecimalDigit, Digits, HexDigit, capital, small, figure, letter, none, more, Hex}
-use Rattle.digits.specs.Answer.{ReadDecimal, ReadPadded, ReadHex}
+use Rattle.digits.specs.inner.Answer.{ReadDecimal, ReadPadded, ReadHex}
 use Rattle.digits.specs.declared.Letters.the-variants.{Capital as CapitalLetters}
 use Rattle.digits.specs.House.{glyphOf, paddedText, hexText, fixed}
 use Rattle.clock.specs.declared.DateTime.{DateTime}
@@ -19,14 +19,14 @@ use Rattle.record.specs.Promise.{UnpackPromise, fields, not-twenty, malformed, 
 use Rattle.record.proofs.Bytes.{length-bytes}
 use Rattle.fields.specs.declared.Scan.{Scan}
 use Rattle.fields.specs.Runs.{All, empty, more as and, Stops, halt}
-use Rattle.fields.specs.Columns.{BusField, LengthField, remoteText, markTx, Capital}
-use Rattle.fields.specs.Window.{Solid, FieldAt, Takes, taken, not, HexField, MarkField, rx, tx, warng, error}
+use Rattle.fields.specs.Columns.{BusField, LengthField, remoteText, typeTx, Capital}
+use Rattle.fields.specs.inner.Window.{Solid, FieldAt, Takes, taken, not, HexField, TypeField, rx, tx, warng, error}
 use Rattle.fields.proofs.Window.{field-one}
 use Rattle.row.specs.Versions.{Version, is11, is12, versionText}
 use Rattle.row.proofs.EachVersion.{version-low}
 use Rattle.lines.specs.Lines.{Blanks, VersionLine, Comment}
-use Rattle.lines.specs.Answer
-use Rattle.lines.specs.Answer.{VersionOr0}
+use Rattle.lines.specs.inner.Answer
+use Rattle.lines.specs.inner.Answer.{VersionOr0}
 
 -- Equal lists begin with the same.
 differ : {x y : ℕ} {s t : List ℕ} → x ∷ s ≡ y ∷ t → x ≡ y
@@ -98,14 +98,14 @@ hour-of-twelve p e = let t = p .time in omega (arith, t .low, t .high, t .minute
 
 -- fields
 
--- `Warnng` and `rx` are no marks, and `Tx` is not `Rx`
-pub mark-warnng : {v : ℕ} → MarkField v (87 ∷ 97 ∷ 114 ∷ 110 ∷ 110 ∷ 103 ∷ []) → ⊥
-mark-warnng (rx e) = let z = ap length e in omega arith
-mark-warnng (tx e) = let z = ap length e in omega arith
-mark-warnng (warng e) = let z = ap length e in omega arith
-mark-warnng (error e) = let z = ap length e in omega arith
+-- `Warnng` and `rx` are no types, and `Tx` is not `Rx`
+pub type-warnng : {v : ℕ} → TypeField v (87 ∷ 97 ∷ 114 ∷ 110 ∷ 110 ∷ 103 ∷ []) → ⊥
+type-warnng (rx e) = let z = ap length e in omega arith
+type-warnng (tx e) = let z = ap length e in omega arith
+type-warnng (warng e) = let z = ap length e in omega arith
+type-warnng (error e) = let z = ap length e in omega arith
 
-pub tx-is-not-rx : MarkField 0 markTx → ⊥
+pub tx-is-not-rx : TypeField 0 typeTx → ⊥
 tx-is-not-rx (rx e) = omega (arith, differ e)
 
 -- nine digits and `G` are no number

@@ -6,9 +6,9 @@ use native.Mathlib.Omega.{arith}
 use lib.ListN.{length}
 use Rattle.digits.specs.declared.Letters.the-variants.{Capital}
 use Rattle.digits.specs.House.{glyphOf, fixed, hexText, byteTexts}
-use Rattle.fields.specs.Columns.{markRx}
+use Rattle.fields.specs.Columns.{typeRx}
 use Rattle.record.specs.declared.Record.{Record}
-use Rattle.row.specs.House.{busTexts, markText, idText}
+use Rattle.row.specs.House.{busTexts, typeText, idText}
 use Rattle.ascii_line.specs.Line as line
 
 -- rows
@@ -18,8 +18,8 @@ pub bus-in-11 : (bus : ℕ) → length (busTexts 11 bus) ≡ 1 → ⊥
 unfolding busTexts
 bus-in-11 bus e = omega arith
 
-pub sent-as-received : markText 1 ≡ markRx → ⊥
-unfolding markText
+pub sent-as-received : typeText 1 ≡ typeRx → ⊥
+unfolding typeText
 sent-as-received e = let z : _≡_ {A = ℕ} 84 82 = cc in omega arith
 
 -- an extended ID has eight digits, whatever its value
@@ -41,7 +41,7 @@ first-digit-again e = let z : _≡_ {A = ℕ} 50 49 = cc in omega arith
 
 -- lines of the export
 
-pub direction-of-another : line.directionText 1 ≡ markRx → ⊥
+pub direction-of-another : line.directionText 1 ≡ typeRx → ⊥
 unfolding line.directionText
 direction-of-another e = let z : _≡_ {A = ℕ} 84 82 = cc in omega arith
 
@@ -49,10 +49,10 @@ direction-of-another e = let z : _≡_ {A = ℕ} 84 82 = cc in omega arith
 abbrev standardTen : Record
 standardTen = record { offset = 0; bus = 0; kind = 0; extended = 0; id = 10; len = 0; «data» = 0 }
 
-pub four-digits-of-a-standard-id : length (line.idText standardTen) ≡ 4 → ⊥
-unfolding line.idText fixed
+pub four-digits-of-a-standard-id : length (line.idDigits standardTen) ≡ 4 → ⊥
+unfolding line.idDigits fixed
 four-digits-of-a-standard-id e = omega arith
 
-pub capital-letter : line.idText standardTen ≡ 48 ∷ 48 ∷ 65 ∷ [] → ⊥
-unfolding line.idText fixed glyphOf
+pub capital-letter : line.idDigits standardTen ≡ 48 ∷ 48 ∷ 65 ∷ [] → ⊥
+unfolding line.idDigits fixed glyphOf
 capital-letter e = let z : _≡_ {A = ℕ} 97 65 = cc in omega arith

@@ -16,27 +16,27 @@ use Rattle.record.specs.Record.{WellFormed, number}
 use Rattle.record.proofs.Bytes.{byte-below}
 use Rattle.record.proofs.Frames.{frame-formed}
 use Rattle.records.specs.Records.{packed, none, more}
-use Rattle.row.specs.House.{numberText, offsetText, busTexts, markText, idText, dataTexts, rowTexts}
+use Rattle.row.specs.House.{numberText, offsetText, busTexts, typeText, idText, dataTexts, rowTexts}
 use Rattle.row.specs.Versions.{Version, is11, is12, Carries, v12}
 use Rattle.trace.specs.Trace.{Trace, AreBytes, traceOf}
-use Rattle.trace.specs.House.{versionLineText, dayFraction, startLineText, rowsText, traceText, Writable}
+use Rattle.trace.specs.House.{versionLineText, fractionOfDay, startLineText, rowsText, traceText, Writable}
 use Rattle.trace.proofs.Beginnings.{tested, are-bytes}
-use Rattle.tightness.specs.Programs.{Bytes}
-use Rattle.tightness.specs.Tight.{received, Tried, empty, later, older, two, copied}
+use Rattle.tightness.specs.Programs.{Lent}
+use Rattle.tightness.specs.Tight.{received12, Tried, empty, later, older, two, copied}
 
 -- They can be written.
 
-pub received-formed : (offset id : ℕ) → offset ≤ offsetLimit → id ≤ 0x7FF → WellFormed (received offset id)
+pub received-formed : (offset id : ℕ) → offset ≤ offsetLimit → id ≤ 0x7FF → WellFormed (received12 offset id)
 received-formed offset id o i =
     frame-formed _ (omega arith) o (omega arith) (omega arith) (λ e. i) (omega arith) (omega arith) (omega arith) refl (λ e. refl)
 
 none-writable : {version start : ℕ} → Version version → start ≤ startLimit → Writable (traceOf version start [])
 none-writable v l = record { version = v; start = l; few = omega arith; formed = none; carried = none }
 
-pub received-carried : (offset id : ℕ) → Carries (received offset id) 12
+pub received-carried : (offset id : ℕ) → Carries (received12 offset id) 12
 received-carried offset id = v12 (omega arith) (omega arith)
 
-two-writable : (id : ℕ) → id ≤ 0x7FF → Writable (traceOf 12 0 (received 0 1 ∷ received 0 id ∷ []))
+two-writable : (id : ℕ) → id ≤ 0x7FF → Writable (traceOf 12 0 (received12 0 1 ∷ received12 0 id ∷ []))
 two-writable id h = record {
   version = is12;
   start = omega arith;
@@ -58,7 +58,7 @@ pub zeros-small : (n : ℕ) → AreBytes (replicate n 0)
 zeros-small zero = nothing
 zeros-small (suc n) = byte {b = 0} (omega arith) (zeros-small n)
 
-abbrev pub zeros : ℕ → Bytes
+abbrev pub zeros : ℕ → Lent
 zeros n = record { list = replicate n 0; small = zeros-small n }
 
 pub packed-small : (rs : List Record) → AreBytes (packed rs)
@@ -66,11 +66,11 @@ unfolding packed
 packed-small [] = nothing
 packed-small (r ∷ rs) = all-append (all-of (bytes 20 (number r)) (λ k l. byte-below 20 (number r) k)) (packed-small rs)
 
-abbrev pub recordsOf : Trace → Bytes
+abbrev pub recordsOf : Trace → Lent
 recordsOf t = record { list = packed (t .records); small = packed-small (t .records) }
 
 text-tested : {t : Trace} → Tried t → tested (traceText t)
-unfolding traceText versionLineText startLineText dayFraction rowsText spaced joined numberText offsetText busTexts markText idText byteTexts dataTexts rowTexts decimalText spell fixed glyphOf
+unfolding traceText versionLineText startLineText fractionOfDay rowsText spaced joined numberText offsetText busTexts typeText idText byteTexts dataTexts rowTexts decimalText spell fixed glyphOf
 text-tested empty = tt
 text-tested later = tt
 text-tested older = tt
@@ -80,5 +80,5 @@ text-tested copied = tt
 pub text-small : {t : Trace} → Tried t → AreBytes (traceText t)
 text-small {t} w = are-bytes (traceText t) (text-tested w)
 
-abbrev pub textOf : {t : Trace} → Tried t → Bytes
+abbrev pub textOf : {t : Trace} → Tried t → Lent
 textOf {t} w = record { list = traceText t; small = text-small w }

@@ -14,30 +14,30 @@ use Rattle.trace.specs.Promise.{ReadPromise}
 use Rattle.trace.proofs.HouseTexts.{trace-text, version-line}
 use Rattle.trace.proofs.There.{one-house}
 use Rattle.trace_writer.specs.declared.Written.the-variants as answer
-use Rattle.trace_writer.specs.Promise.{writeNumbers, Stopped, WritePromise}
+use Rattle.trace_writer.specs.Promise.{writeNumbers, WriteStopped, WritePromise}
 use Rattle.trace_writer.proofs.Answers.{writes}
 use Rattle.trace_writer.proofs.Again.{back}
-use Rattle.tightness.specs.Programs.{Bytes, FromReader, FromWriter, Reader, six, Reads, Writer, Writes, written}
+use Rattle.tightness.specs.Programs.{Lent, FromReader, FromWriter, Reader, six, KeepsRead, Writer, KeepsWrite, writtenText}
 use Rattle.tightness.specs.Wrong.{RefusesWritten, DoesNothing, WritesFirst}
-use Rattle.tightness.specs.Tight.{HandsOut, received, Tried, empty, two, copied}
+use Rattle.tightness.specs.Tight.{HandsOut, received12, Tried, empty, two, copied}
 use Rattle.tightness.proofs.Tried.{writable, zeros, recordsOf, textOf}
 
 -- What can be written is written.
 record Puts (t : Trace) (before : List ℕ) (a : FromWriter) : Type 0 where
   accepted : a .number ≡ 0
-  text : written a ≡ traceText t
+  text : writtenText a ≡ traceText t
   output : a .after ≡ traceText t ++ drop (length (traceText t)) before
 
 -- The first byte of a house spelling is `;`.
 semicolon : (t : Trace) (rest : List ℕ) → getD (traceText t ++ rest) 0 0 ≡ 59
 semicolon t rest = rw (trace-text, version-line)
 
-stopped-number : {version start n p : ℕ} {s : List ℕ} → Stopped version start s n p → 20 ≤ n
-stopped-number (Stopped.no-records f) = omega arith
-stopped-number (Stopped.no-version w f) = omega arith
-stopped-number (Stopped.late w v l) = omega arith
-stopped-number (Stopped.malformed w v l f) = omega arith
-stopped-number (Stopped.misfit w v l h f) = omega arith
+stopped-number : {version start n p : ℕ} {s : List ℕ} → WriteStopped version start s n p → 20 ≤ n
+stopped-number (WriteStopped.no-records f) = omega arith
+stopped-number (WriteStopped.no-version w f) = omega arith
+stopped-number (WriteStopped.late w v l) = omega arith
+stopped-number (WriteStopped.malformed w v l f) = omega arith
+stopped-number (WriteStopped.misfit w v l h f) = omega arith
 
 -- Number 0 says that the text is done.
 done : {version start n p m : ℕ} {s before x : List ℕ} → WritePromise version start s before (n ∷ p ∷ m ∷ []) x → n ≡ 0
@@ -65,8 +65,8 @@ again {s = s} {out = out} {a = a} w e l r =
       },
     )
 
-module _ {g : Writer} (k : Writes g) where
-  puts : {t : Trace} (w : Tried t) (out : Bytes) → length (traceText t) ≤ length (out .list)
+module _ {g : Writer} (k : KeepsWrite g) where
+  puts : {t : Trace} (w : Tried t) (out : Lent) → length (traceText t) ≤ length (out .list)
       → Puts t (out .list) (g (t .version) (t .start) (recordsOf t) out)
   puts {t} w out l =
       let a = g (t .version) (t .start) (recordsOf t) out in
@@ -89,18 +89,18 @@ module _ {g : Writer} (k : Writes g) where
 
   pub writes-first : WritesFirst g → ⊥
   writes-first h =
-      let t = traceOf 12 0 (received 0 1 ∷ received 0 2 ∷ []) in
-      let u = traceOf 12 0 (received 0 1 ∷ received 0 1 ∷ []) in
+      let t = traceOf 12 0 (received12 0 1 ∷ received12 0 2 ∷ []) in
+      let u = traceOf 12 0 (received12 0 1 ∷ received12 0 1 ∷ []) in
       let n = length (traceText t) + length (traceText u) in
       let l = length-replicate {A = ℕ} n 0 in
       let a = puts two (zeros n) (omega arith) in
       let b = puts copied (zeros n) (omega arith) in
-      let e = sym (a .text) ∙ h 12 0 (received 0 1) (received 0 2 ∷ []) (recordsOf t) (recordsOf u) (zeros n) refl refl ∙ b .text in
-      omega (arith, ap (λ (x : Trace). getD (x .records) 1 (received 0 0) .id) (one-house (writable two) (writable copied) e))
+      let e = sym (a .text) ∙ h 12 0 (received12 0 1) (received12 0 2 ∷ []) (recordsOf t) (recordsOf u) (zeros n) refl refl ∙ b .text in
+      omega (arith, ap (λ (x : Trace). getD (x .records) 1 (received12 0 0) .id) (one-house (writable two) (writable copied) e))
 
-  module _ {f : Reader} (j : Reads f) where
-    pub reads-back : (version start : ℕ) (records page text out : Bytes) → g version start records page .number ≡ 0
-        → text .list ≡ written (g version start records page) → length (records .list) ≤ length (out .list)
+  module _ {f : Reader} (j : KeepsRead f) where
+    pub reads-back : (version start : ℕ) (records page text out : Lent) → g version start records page .number ≡ 0
+        → text .list ≡ writtenText (g version start records page) → length (records .list) ≤ length (out .list)
         → (rs : List Record) × (records .list ≡ packed rs) × HandsOut (traceOf version start rs) (f text out)
     reads-back version start records page text out z e l =
         again {a = f text out} (done (k .keeps version start records page) z) e l (j .keeps text out)

@@ -9,7 +9,7 @@ use Rattle.ascii.specs.Promise.{ExportPromise}
 
 -- What a program is lent: bytes. (On a machine lengths and numbers end somewhere; what lies past that is refused with 1, 20, 21 or 22, or is
 -- room that no answer needs.)
-pub record Bytes : Type 0 where
+pub record Lent : Type 0 where
   pub list : List ℕ
   pub small : AreBytes list
 
@@ -24,21 +24,21 @@ pub record FromReader : Type 0 where
   pub after : List ℕ
 
 abbrev pub Reader : Type 0
-Reader = Bytes → Bytes → FromReader
+Reader = Lent → Lent → FromReader
 
 abbrev pub six : FromReader → List ℕ
 six a = a .number ∷ a .place ∷ a .version ∷ a .start ∷ a .rows ∷ a .back ∷ []
 
 -- It keeps the promise for every text and every output.
-pub record Reads (f : Reader) : Type 0 where
-  pub keeps : (text out : Bytes) → ReadPromise (text .list) (out .list) (six (f text out)) (f text out .after)
+pub record KeepsRead (f : Reader) : Type 0 where
+  pub keeps : (text out : Lent) → ReadPromise (text .list) (out .list) (six (f text out)) (f text out .after)
 
 -- The records that it hands out, twenty bytes for each row, and the j-th of them, from 0.
 abbrev pub handedOut : FromReader → List ℕ
 handedOut a = take (20 * a .rows) (a .after)
 
-abbrev pub recordAt : FromReader → ℕ → List ℕ
-recordAt a j = take 20 (drop (20 * j) (handedOut a))
+abbrev pub handedOutAt : FromReader → ℕ → List ℕ
+handedOutAt a j = take 20 (drop (20 * j) (handedOut a))
 
 -- A writer is given a version, a start, records and an output. It gives three numbers, and what the output then holds.
 pub record FromWriter : Type 0 where
@@ -48,18 +48,18 @@ pub record FromWriter : Type 0 where
   pub after : List ℕ
 
 abbrev pub Writer : Type 0
-Writer = ℕ → ℕ → Bytes → Bytes → FromWriter
+Writer = ℕ → ℕ → Lent → Lent → FromWriter
 
 abbrev pub three : FromWriter → List ℕ
 three a = a .number ∷ a .place ∷ a .bytes ∷ []
 
-pub record Writes (g : Writer) : Type 0 where
-  pub keeps : (version start : ℕ) (records out : Bytes)
+pub record KeepsWrite (g : Writer) : Type 0 where
+  pub keeps : (version start : ℕ) (records out : Lent)
       → WritePromise version start (records .list) (out .list) (three (g version start records out)) (g version start records out .after)
 
 -- The text that it has written.
-abbrev pub written : FromWriter → List ℕ
-written a = take (a .bytes) (a .after)
+abbrev pub writtenText : FromWriter → List ℕ
+writtenText a = take (a .bytes) (a .after)
 
 -- An exporter is given a start, records and an output. It gives five numbers, and what the output then holds.
 pub record FromExporter : Type 0 where
@@ -71,11 +71,11 @@ pub record FromExporter : Type 0 where
   pub after : List ℕ
 
 abbrev pub Exporter : Type 0
-Exporter = ℕ → Bytes → Bytes → FromExporter
+Exporter = ℕ → Lent → Lent → FromExporter
 
 abbrev pub five : FromExporter → List ℕ
 five a = a .number ∷ a .place ∷ a .bytes ∷ a .lines ∷ a .left ∷ []
 
-pub record Exports (e : Exporter) : Type 0 where
-  pub keeps : (start : ℕ) (records out : Bytes)
+pub record KeepsExport (e : Exporter) : Type 0 where
+  pub keeps : (start : ℕ) (records out : Lent)
       → ExportPromise start (records .list) (out .list) (five (e start records out)) (e start records out .after)

@@ -9,7 +9,7 @@ use Rattle.trace.specs.Trace.{sizeLimit, Trace, Spells, traceOf}
 use Rattle.trace.specs.Promise.{ReadPromise}
 use Rattle.trace_writer.specs.Promise.{WritePromise}
 use Rattle.ascii.specs.Promise.{ExportPromise}
-use Rattle.tightness.specs.Programs.{Bytes, FromReader, Reader, six, Reads, handedOut, FromWriter, Writer, three, Writes, written, FromExporter, Exporter, five, Exports}
+use Rattle.tightness.specs.Programs.{Lent, FromReader, Reader, six, KeepsRead, handedOut, FromWriter, Writer, three, KeepsWrite, writtenText, FromExporter, Exporter, five, KeepsExport}
 use Rattle.tightness.specs.Wrong.{RefusesAll, RefusesWritten, SameVersion, SameStart, SameRecords, SameAlways, DoesNothing, CopiesFirst, WritesFirst, InventsRows, InventsLeftOut, Touched}
 
 -- The text is accepted, and this trace handed out.
@@ -22,63 +22,63 @@ pub record HandsOut (t : Trace) (a : FromReader) : Type 0 where
 
 -- The traces that the wrong programs are tried with: without rows, in two versions and with two starts; with two rows, of IDs 1 and 2; and with
 -- the first of these copied.
-abbrev pub received : ℕ → ℕ → Record
-received offset id = record { offset = offset; bus = 1; kind = 0; extended = 0; id = id; len = 0; «data» = 0 }
+abbrev pub received12 : ℕ → ℕ → Record
+received12 offset id = record { offset = offset; bus = 1; kind = 0; extended = 0; id = id; len = 0; «data» = 0 }
 
 pub data Tried : Trace → Type 0 where
   empty : Tried (traceOf 12 0 [])
   later : Tried (traceOf 12 1 [])
   older : Tried (traceOf 11 0 [])
-  two : Tried (traceOf 12 0 (received 0 1 ∷ received 0 2 ∷ []))
-  copied : Tried (traceOf 12 0 (received 0 1 ∷ received 0 1 ∷ []))
+  two : Tried (traceOf 12 0 (received12 0 1 ∷ received12 0 2 ∷ []))
+  copied : Tried (traceOf 12 0 (received12 0 1 ∷ received12 0 1 ∷ []))
 
 -- A trace is real: some bytes spell it, some are its records, and with room an answer with number 0 keeps each promise.
 pub record Real (t : Trace) : Type 0 where
-  pub text : Bytes
+  pub text : Lent
   pub spelled : Spells t (text .list)
-  pub records : Bytes
+  pub records : Lent
   pub packs : records .list ≡ packed (t .records)
-  pub is-read : (out : Bytes) → 20 * length (t .records) ≤ length (out .list)
+  pub is-read : (out : Lent) → 20 * length (t .records) ≤ length (out .list)
       → (a : FromReader) × (a .number ≡ 0) × ReadPromise (text .list) (out .list) (six a) (a .after)
-  pub is-written : (out : Bytes) → length (text .list) ≤ length (out .list)
+  pub is-written : (out : Lent) → length (text .list) ≤ length (out .list)
       → (a : FromWriter) × (a .number ≡ 0) × WritePromise (t .version) (t .start) (records .list) (out .list) (three a) (a .after)
-  pub is-exported : (out : Bytes) → 86 * length (t .records) ≤ length (out .list)
+  pub is-exported : (out : Lent) → 86 * length (t .records) ≤ length (out .list)
       → (a : FromExporter) × (a .number ≡ 0) × ExportPromise (t .start) (records .list) (out .list) (five a) (a .after)
 
 pub record Tight : Type 0 where
   -- "The promise leaves room for one answer only": two programs that keep it are the same function
-  pub one-reader : {f g : Reader} → Reads f → Reads g → (text out : Bytes) → f text out ≡ g text out
-  pub one-writer : {f g : Writer} → Writes f → Writes g → (version start : ℕ) (records out : Bytes)
+  pub one-reader : {f g : Reader} → KeepsRead f → KeepsRead g → (text out : Lent) → f text out ≡ g text out
+  pub one-writer : {f g : Writer} → KeepsWrite f → KeepsWrite g → (version start : ℕ) (records out : Lent)
       → f version start records out ≡ g version start records out
-  pub one-exporter : {f g : Exporter} → Exports f → Exports g → (start : ℕ) (records out : Bytes) → f start records out ≡ g start records out
+  pub one-exporter : {f g : Exporter} → KeepsExport f → KeepsExport g → (start : ℕ) (records out : Lent) → f start records out ≡ g start records out
   -- 1, by demand 3's acceptance: what spells a trace is accepted, given room,
-  pub accepts : {f : Reader} {t : Trace} → Reads f → (text out : Bytes) → length (text .list) ≤ sizeLimit → Spells t (text .list)
+  pub accepts : {f : Reader} {t : Trace} → KeepsRead f → (text out : Lent) → length (text .list) ≤ sizeLimit → Spells t (text .list)
       → 20 * length (t .records) ≤ length (out .list) → HandsOut t (f text out)
-  pub refuses-all : {f : Reader} → Reads f → RefusesAll f → ⊥
+  pub refuses-all : {f : Reader} → KeepsRead f → RefusesAll f → ⊥
   -- and by demand 2's reading back: what any writer has written, any reader accepts, given room
-  pub reads-back : {f : Reader} {g : Writer} → Reads f → Writes g → (version start : ℕ) (records page text out : Bytes)
-      → g version start records page .number ≡ 0 → text .list ≡ written (g version start records page)
+  pub reads-back : {f : Reader} {g : Writer} → KeepsRead f → KeepsWrite g → (version start : ℕ) (records page text out : Lent)
+      → g version start records page .number ≡ 0 → text .list ≡ writtenText (g version start records page)
       → length (records .list) ≤ length (out .list)
       → (rs : List Record) × (records .list ≡ packed rs) × HandsOut (traceOf version start rs) (f text out)
-  pub refuses-written : {f : Reader} {g : Writer} → Reads f → Writes g → RefusesWritten g f → ⊥
+  pub refuses-written : {f : Reader} {g : Writer} → KeepsRead f → KeepsWrite g → RefusesWritten g f → ⊥
   -- 2
-  pub same-version : {f : Reader} → Reads f → SameVersion f → ⊥
-  pub same-start : {f : Reader} → Reads f → SameStart f → ⊥
-  pub same-records : {f : Reader} → Reads f → SameRecords f → ⊥
-  pub same-always : {f : Reader} → Reads f → SameAlways f → ⊥
+  pub same-version : {f : Reader} → KeepsRead f → SameVersion f → ⊥
+  pub same-start : {f : Reader} → KeepsRead f → SameStart f → ⊥
+  pub same-records : {f : Reader} → KeepsRead f → SameRecords f → ⊥
+  pub same-always : {f : Reader} → KeepsRead f → SameAlways f → ⊥
   -- 3
-  pub does-nothing : {g : Writer} → Writes g → DoesNothing g → ⊥
+  pub does-nothing : {g : Writer} → KeepsWrite g → DoesNothing g → ⊥
   -- 4
-  pub copies-first : {f : Reader} → Reads f → CopiesFirst f → ⊥
-  pub writes-first : {g : Writer} → Writes g → WritesFirst g → ⊥
+  pub copies-first : {f : Reader} → KeepsRead f → CopiesFirst f → ⊥
+  pub writes-first : {g : Writer} → KeepsWrite g → WritesFirst g → ⊥
   -- 5
-  pub invents-rows : {f : Reader} → Reads f → InventsRows f → ⊥
-  pub invents-left-out : {e : Exporter} → Exports e → InventsLeftOut e → ⊥
+  pub invents-rows : {f : Reader} → KeepsRead f → InventsRows f → ⊥
+  pub invents-left-out : {e : Exporter} → KeepsExport e → InventsLeftOut e → ⊥
   -- 6
-  pub reader-touches : {f : Reader} → Reads f → (text out : Bytes) → Touched (six (f text out)) (out .list) (f text out .after) → ⊥
-  pub writer-touches : {g : Writer} → Writes g → (version start : ℕ) (records out : Bytes)
+  pub reader-touches : {f : Reader} → KeepsRead f → (text out : Lent) → Touched (six (f text out)) (out .list) (f text out .after) → ⊥
+  pub writer-touches : {g : Writer} → KeepsWrite g → (version start : ℕ) (records out : Lent)
       → Touched (three (g version start records out)) (out .list) (g version start records out .after) → ⊥
-  pub exporter-touches : {e : Exporter} → Exports e → (start : ℕ) (records out : Bytes)
+  pub exporter-touches : {e : Exporter} → KeepsExport e → (start : ℕ) (records out : Lent)
       → Touched (five (e start records out)) (out .list) (e start records out .after) → ⊥
   -- and what they were tried with
   pub real : {t : Trace} → Tried t → Real t

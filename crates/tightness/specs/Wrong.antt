@@ -5,25 +5,25 @@ use mathlib.Core.Logic.{_≢_, _⊎_}
 use mathlib.Core.List.{List, [], _∷_}
 use lib.ListN.{length, getD, drop, replicate}
 use Rattle.record.specs.declared.Record.{Record}
-use Rattle.records.specs.Records.{packed, Holds}
+use Rattle.records.specs.Records.{packed, PacksAll}
 use Rattle.trace.specs.Trace.{Trace, Spells}
-use Rattle.tightness.specs.Programs.{Bytes, FromReader, Reader, handedOut, recordAt, Writer, written, Exporter}
+use Rattle.tightness.specs.Programs.{Lent, FromReader, Reader, handedOut, handedOutAt, Writer, writtenText, Exporter}
 
 -- 1. "A reader that refuses everything": its number is never 0;
 abbrev pub RefusesAll : Reader → Type 0
-RefusesAll f = (text out : Bytes) → f text out .number ≢ 0
+RefusesAll f = (text out : Lent) → f text out .number ≢ 0
 
 -- or it refuses at least all that a writer has written, also where there is room for the records.
 abbrev pub RefusesWritten : Writer → Reader → Type 0
 RefusesWritten g f =
-    (version start : ℕ) (records page text out : Bytes) → g version start records page .number ≡ 0
-    → text .list ≡ written (g version start records page) → length (records .list) ≤ length (out .list) → f text out .number ≢ 0
+    (version start : ℕ) (records page text out : Lent) → g version start records page .number ≡ 0
+    → text .list ≡ writtenText (g version start records page) → length (records .list) ≤ length (out .list) → f text out .number ≢ 0
 
 -- 2. "One that hands out the same trace always": version, start and records are the same for all texts that it accepts. One part of the
 -- trace that is always the same is wrong enough.
 abbrev pub Always : {A : Type 0} → (FromReader → A) → Reader → Type 0
 Always part f =
-    (text other out : Bytes) → f text out .number ≡ 0 → f other out .number ≡ 0 → part (f text out) ≡ part (f other out)
+    (text other out : Lent) → f text out .number ≡ 0 → f other out .number ≡ 0 → part (f text out) ≡ part (f other out)
 
 abbrev pub SameVersion : Reader → Type 0
 SameVersion = Always (λ a. a .version)
@@ -39,24 +39,24 @@ SameAlways f = SameVersion f × SameStart f × SameRecords f
 
 -- 3. "A writer that does nothing": the output stays what it was, whatever it is given.
 abbrev pub DoesNothing : Writer → Type 0
-DoesNothing g = (version start : ℕ) (records out : Bytes) → g version start records out .after ≡ out .list
+DoesNothing g = (version start : ℕ) (records out : Lent) → g version start records out .after ≡ out .list
 
 -- 4. "One that treats the first row truly and copies it for the rest": each record of a reader is its first;
 abbrev pub CopiesFirst : Reader → Type 0
-CopiesFirst f = (text out : Bytes) → f text out .number ≡ 0 → (j : ℕ) → j < f text out .rows → recordAt (f text out) j ≡ recordAt (f text out) 0
+CopiesFirst f = (text out : Lent) → f text out .number ≡ 0 → (j : ℕ) → j < f text out .rows → handedOutAt (f text out) j ≡ handedOutAt (f text out) 0
 
 -- a writer's text is that of its first record, as often as there are records.
 abbrev pub WritesFirst : Writer → Type 0
 WritesFirst g =
-    (version start : ℕ) (r : Record) (rs : List Record) (records copies out : Bytes) → records .list ≡ packed (r ∷ rs)
+    (version start : ℕ) (r : Record) (rs : List Record) (records copies out : Lent) → records .list ≡ packed (r ∷ rs)
     → copies .list ≡ packed (replicate (length (r ∷ rs)) r)
-    → written (g version start records out) ≡ written (g version start copies out)
+    → writtenText (g version start records out) ≡ writtenText (g version start copies out)
 
 -- 5. "Invented counts of rows": for some text that it accepts, a reader's rows are not "the list's own length", of the records that the
 -- text spells;
 pub record InventsRows (f : Reader) : Type 0 where
-  pub text : Bytes
-  pub out : Bytes
+  pub text : Lent
+  pub out : Lent
   pub trace : Trace
   pub spelled : Spells trace (text .list)
   pub accepted : f text out .number ≡ 0
@@ -71,10 +71,10 @@ pub data Counted : List Record → ℕ → ℕ → Type 0 where
 
 pub record InventsLeftOut (e : Exporter) : Type 0 where
   pub start : ℕ
-  pub given : Bytes
-  pub out : Bytes
+  pub given : Lent
+  pub out : Lent
   pub records : List Record
-  pub holds : Holds records (given .list)
+  pub packs : PacksAll records (given .list)
   pub lines : ℕ
   pub left : ℕ
   pub counted : Counted records lines left

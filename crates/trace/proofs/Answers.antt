@@ -14,7 +14,7 @@ use Rattle.trace.specs.declared.Outcome.{Outcome}
 use Rattle.trace.specs.declared.Outcome.the-variants as outcome
 use Rattle.trace.specs.Trace.{sizeLimit, Trace, Line, Spells, Begins}
 use Rattle.trace.specs.Promise
-use Rattle.trace.specs.Promise.{readNumbers, Lines, none, line, Reached, Barred, Refused, ReadPromise, large, done, no-room, refused}
+use Rattle.trace.specs.Promise.{readNumbers, EndedLines, none, line, Reached, Barred, RefusedAtLine, ReadPromise, large, done, no-room, refused}
 use Rattle.lines.proofs.Theorems.{first-one}
 use Rattle.trace.proofs.Apart.{no-line}
 use Rattle.trace.proofs.One.{one-trace}
@@ -27,7 +27,7 @@ record Between (n m : ℕ) (front front′ rest rest′ : List ℕ) : Type 0 whe
   count : ℕ
   middle : List ℕ
   sum : n + count ≡ m
-  lines : Lines count middle
+  lines : EndedLines count middle
   longer : front′ ≡ front ++ middle
   left : rest ≡ middle ++ rest′
 
@@ -35,7 +35,7 @@ behind-line : {l l′ r r′ t t′ : List ℕ} (middle : List ℕ) → FirstLin
     → t′ ≡ t ++ middle
 behind-line middle f g e q = cc (first-more middle f .ended, g .ended)
 
-between : {n m : ℕ} {front front′ : List ℕ} (rest rest′ : List ℕ) → Lines n front → Lines m front′ → front ++ rest ≡ front′ ++ rest′
+between : {n m : ℕ} {front front′ : List ℕ} (rest rest′ : List ℕ) → EndedLines n front → EndedLines m front′ → front ++ rest ≡ front′ ++ rest′
     → n ≤ m → Between n m front front′ rest rest′
 between {m = m} {front′ = front′} rest rest′ none g e h =
     record { count = m; middle = front′; sum = omega arith; lines = g; longer = refl; left = e }
@@ -53,7 +53,7 @@ between rest rest′ (line {n = n} {l = l} {rest = r} f a) (line {n = m} {rest =
       left = y .left;
     }
 
-no-lines : {n : ℕ} {s : List ℕ} → Lines n s → n ≡ 0 → s ≡ []
+no-lines : {n : ℕ} {s : List ℕ} → EndedLines n s → n ≡ 0 → s ≡ []
 no-lines none e = refl
 no-lines (line f a) e = absurd (omega arith)
 
@@ -82,7 +82,7 @@ module _ {n m : ℕ} {rest rest′ text : List ℕ} (a : Reached n rest text) (b
       let j : 1 ≤ x .count = omega arith in
       go j (x .lines) (x .longer) (x .left)
     where
-      go : {j : ℕ} {middle : List ℕ} → 1 ≤ j → Lines j middle → b .front ≡ a .front ++ middle → rest ≡ middle ++ rest′
+      go : {j : ℕ} {middle : List ℕ} → 1 ≤ j → EndedLines j middle → b .front ≡ a .front ++ middle → rest ≡ middle ++ rest′
           → Further (a .front) rest
       go l none e q = absurd (omega arith)
       go {middle = middle} l (line {l = this} {rest = behind} f ls) e q =
@@ -125,7 +125,7 @@ record Stops (text : List ℕ) (number place : ℕ) : Type 0 where
 bars : {n number : ℕ} {l text : List ℕ} → Barred n l text → Kind n l number → Stops text number (n + 1)
 bars b k = record { n = _; rest = b .rest; reached = b .reached; stop = barred (b .there) (b .never) k; at = refl }
 
-stops : {text : List ℕ} {number place : ℕ} → Refused text number place → Stops text number place
+stops : {text : List ℕ} {number place : ℕ} → RefusedAtLine text number place → Stops text number place
 stops (Promise.unended r x f) = record { n = _; rest = _; reached = r; stop = unended x f; at = refl }
 stops (Promise.long r f l) = record { n = _; rest = _; reached = r; stop = long f l; at = refl }
 stops (Promise.no-first r) = record { n = 0; rest = []; reached = r; stop = absent four refl; at = refl }
@@ -201,11 +201,11 @@ stops-one {a = a} {b = b} {p = p} {q = q} x y = go (decLt (x .n) (y .n)) (decLt 
         (same-stop e (z .0) (z .1) (x .stop) (y .stop), omega (arith, x .at, y .at))
 
 -- A text is refused with one number at one place.
-pub refused-one : {text : List ℕ} {a b p q : ℕ} → Refused text a p → Refused text b q → (a ≡ b) × (p ≡ q)
+pub refused-one : {text : List ℕ} {a b p q : ℕ} → RefusedAtLine text a p → RefusedAtLine text b q → (a ≡ b) × (p ≡ q)
 refused-one h k = stops-one (stops h) (stops k)
 
 -- A text that spells a trace has two lines.
-two-lines : {n : ℕ} {t : Trace} {front : List ℕ} (rest : List ℕ) → Lines n front → Spells t (front ++ rest) → rest ≡ [] → 2 ≤ n
+two-lines : {n : ℕ} {t : Trace} {front : List ℕ} (rest : List ℕ) → EndedLines n front → Spells t (front ++ rest) → rest ≡ [] → 2 ≤ n
 two-lines rest none a e = absurd (none-left (a .one .first) e)
 two-lines rest (line f none) a e =
     let x = first-one (a .one .first) (first-more rest f) in
@@ -230,7 +230,7 @@ no-stop {n = n} {rest = rest} {text = text} {t = t} h s r = go (shorts-after res
         v (begins-cut after (lines-append (r .lines) (lines-alone (f .first .inside))) (rw e at s) (omega (arith, ap length e, length-append (r .front ++ endedLine l) after)))
 
 -- What spells a trace is not refused.
-pub not-refused : {text : List ℕ} {t : Trace} {a p : ℕ} → length text ≤ sizeLimit → Spells t text → Refused text a p → ⊥
+pub not-refused : {text : List ℕ} {t : Trace} {a p : ℕ} → length text ≤ sizeLimit → Spells t text → RefusedAtLine text a p → ⊥
 not-refused h s k =
     let x = stops k in
     no-stop h s (x .reached) (x .stop)
@@ -275,7 +275,7 @@ pub accepts : {text before a x : List ℕ} {t : Trace} → length text ≤ sizeL
 accepts h s r p = one-read p (done h s r refl refl)
 
 -- Refusals of a line have the numbers 2 to 7, at a place from 1.
-pub refused-numbers : {text : List ℕ} {number p : ℕ} → Refused text number p → (2 ≤ number) × (number ≤ 7) × (1 ≤ p)
+pub refused-numbers : {text : List ℕ} {number p : ℕ} → RefusedAtLine text number p → (2 ≤ number) × (number ≤ 7) × (1 ≤ p)
 refused-numbers (Promise.unended r x f) = (omega arith, omega arith, omega arith)
 refused-numbers (Promise.long r f l) = (omega arith, omega arith, omega arith)
 refused-numbers (Promise.no-first r) = (omega arith, omega arith, omega arith)

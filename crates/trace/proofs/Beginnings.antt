@@ -12,7 +12,7 @@ use Rattle.record.specs.declared.Record.{Record}
 use Rattle.lines.specs.Lines.{lineLimit, FirstLine, VersionLine, StartLine}
 use Rattle.row.specs.Versions.{is11, versionText}
 use Rattle.trace.specs.Trace.{sizeLimit, Trace, Line, Body, over, comment, row, SpellsFrom, Spells, AreBytes, Begins}
-use Rattle.trace.specs.Promise.{Lines, none, line}
+use Rattle.trace.specs.Promise.{EndedLines, none, line}
 use Rattle.lines.proofs.Theorems.{first-one, version-line-text, version-line-inside, startLine, start-line-text, start-line-inside}
 use Rattle.trace.proofs.Apart.{no-line}
 use Rattle.trace.proofs.Cuts.{endedLine, first-more, line-more, first-alone, spells-cut}
@@ -66,7 +66,7 @@ pub begins-spelled : {t : Trace} {front : List ℕ} → Spells t front → lengt
 begins-spelled {t = t} a h = record { rest = []; bytes = empty; trace = t; spelled = rw append-nil a; size = rw append-nil h }
 
 -- The lines with which a text that spells a trace begins are such lines.
-pub begins-cut : {n : ℕ} {t : Trace} {front : List ℕ} (rest : List ℕ) → Lines n front → Spells t (front ++ rest)
+pub begins-cut : {n : ℕ} {t : Trace} {front : List ℕ} (rest : List ℕ) → EndedLines n front → Spells t (front ++ rest)
     → length front ≤ sizeLimit → Begins front
 begins-cut rest none a h = begins-none
 begins-cut rest (line f none) a h =
@@ -75,7 +75,7 @@ begins-cut rest (line f none) a h =
 begins-cut rest (line {n = n} f (line {n = m} g ls)) a h = begins-spelled (spells-cut rest (omega arith) (line f (line g ls)) a .first) h
 
 -- Fewer lines begin what more do.
-pub begins-fewer : {n : ℕ} {front : List ℕ} (more : List ℕ) → Lines n front → Begins (front ++ more) → Begins front
+pub begins-fewer : {n : ℕ} {front : List ℕ} (more : List ℕ) → EndedLines n front → Begins (front ++ more) → Begins front
 begins-fewer {front = front} more ls b =
     begins-cut (more ++ b .rest) ls (rw append-assoc at (b .spelled)) (omega (arith, b .size, length-append (front ++ more) (b .rest), length-append front more))
 
@@ -97,7 +97,7 @@ pub spells-shorts : {number : ℕ} {t : Trace} {text : List ℕ} → SpellsFrom 
 spells-shorts a = one-more (a .one) (one-more (a .two) (body-shorts (a .body)))
 
 -- So is every line behind some lines.
-pub shorts-after : {n : ℕ} {front text : List ℕ} (rest : List ℕ) → Lines n front → text ≡ front ++ rest → Shorts text → Shorts rest
+pub shorts-after : {n : ℕ} {front text : List ℕ} (rest : List ℕ) → EndedLines n front → text ≡ front ++ rest → Shorts text → Shorts rest
 shorts-after rest none e s = rw e at s
 shorts-after rest (line f ls) e no-more = absurd (no-line (rw (← e) at (first-more rest f)))
 shorts-after rest (line f ls) e (one-more l s) = shorts-after rest ls (first-one (l .first) (rw (← e) at (first-more rest f)) .1) s

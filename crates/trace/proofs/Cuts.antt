@@ -10,7 +10,7 @@ use Rattle.fields.specs.Runs.{All}
 use Rattle.row.specs.Versions.{headLines}
 use Rattle.lines.specs.Lines.{Inside, FirstLine}
 use Rattle.trace.specs.Trace.{Trace, traceOf, Line, Body, over, comment, row, SpellsFrom}
-use Rattle.trace.specs.Promise.{Lines, none, line}
+use Rattle.trace.specs.Promise.{EndedLines, none, line}
 use Rattle.lines.proofs.Theorems.{first-one}
 use Rattle.trace.proofs.Apart.{no-line}
 
@@ -37,11 +37,11 @@ pub first-whole : {l r t : List ℕ} → FirstLine l r t → t ≡ endedLine l +
 first-whole {l} {r} f = f .ended ∙ sym (append-assoc l (13 ∷ 10 ∷ []) r)
 
 -- One line of a text, alone.
-pub lines-alone : {l : List ℕ} → All Inside l → Lines 1 (endedLine l)
+pub lines-alone : {l : List ℕ} → All Inside l → EndedLines 1 (endedLine l)
 lines-alone a = line {n = 0} (first-alone a) none
 
 -- Lines behind lines are lines.
-pub lines-append : {n m : ℕ} {a b : List ℕ} → Lines n a → Lines m b → Lines (n + m) (a ++ b)
+pub lines-append : {n m : ℕ} {a b : List ℕ} → EndedLines n a → EndedLines m b → EndedLines (n + m) (a ++ b)
 lines-append {m = m} none g =
     let e : 0 + m ≡ m = omega arith in
     rw e g
@@ -57,7 +57,7 @@ pub record Cut (v k : ℕ) (rs : List Record) (front rest : List ℕ) : Type 0 w
   pub first : Body v k before front
   pub second : Body v (k + length before) after rest
 
-pub body-cut : {v k n : ℕ} {rs : List Record} {front t : List ℕ} (rest : List ℕ) → Lines n front → t ≡ front ++ rest → Body v k rs t
+pub body-cut : {v k n : ℕ} {rs : List Record} {front t : List ℕ} (rest : List ℕ) → EndedLines n front → t ≡ front ++ rest → Body v k rs t
     → Cut v k rs front rest
 body-cut {v} {k} {rs = rs} rest none e h =
     record { before = []; after = rs; whole = refl; first = over; second = rw add-zero (rw e at h) }
@@ -140,7 +140,7 @@ pub record CutTrace (number : ℕ) (t : Trace) (front rest : List ℕ) : Type 0 
   pub first : SpellsFrom number (withRecords t before) front
   pub second : Body (t .version) (number + length before) after rest
 
-pub spells-cut : {n number : ℕ} {t : Trace} {front : List ℕ} (rest : List ℕ) → headLines (t .version) ≤ n → Lines n front
+pub spells-cut : {n number : ℕ} {t : Trace} {front : List ℕ} (rest : List ℕ) → headLines (t .version) ≤ n → EndedLines n front
     → SpellsFrom number t (front ++ rest) → CutTrace number t front rest
 spells-cut rest m none a = absurd (omega arith)
 spells-cut rest m (line f none) a = absurd (omega arith)

@@ -1,5 +1,5 @@
 -- Paper 01's table of numbers, for reading: each number is given exactly when the table says, with its place. Of 2 to 7 the table's words are
--- `Stopped` (Fails): what the first wrong line is, or is not, behind lines that are right (`Stands`).
+-- `WrongNext` (Fails): what the first wrong line is, or is not, behind lines that are right (`RightSoFar`).
 use Prim.Native.Nat.{ℕ, _+_, _*_, _≤_, _<_}
 use mathlib.Core.Path.{_≡_, refl, ap}
 use mathlib.Core.List.{List, [], _++_}
@@ -9,18 +9,18 @@ use Rattle.row.specs.Versions.{headLines}
 use Rattle.trace.specs.Trace.{sizeLimit, Trace, Line, Spells, Begins}
 use Rattle.trace.specs.Trace.{over as body-over, comment as body-comment, row as body-row}
 use Rattle.trace.specs.Promise
-use Rattle.trace.specs.Promise.{Lines, Reached, PastHead, Barred, Refused, ReadPromise}
+use Rattle.trace.specs.Promise.{EndedLines, Reached, PastHead, Barred, RefusedAtLine, ReadPromise}
 use Rattle.trace.specs.Promise.{none as no-lines, line as lines-more}
 use Rattle.lines.proofs.Theorems.{first-one}
 use Rattle.trace.proofs.Cuts.{endedLine, first-more, line-more, first-alone, withRecords, spells-append, spells-cut}
 use Rattle.trace.proofs.Beginnings.{header, begins-version, begins-spelled}
 use Rattle.trace.proofs.Fails
-use Rattle.trace.proofs.Fails.{Stage, first, second, later, Stands, at-first, at-second, at-later, Next, version, start, comment, row, Stopped, Fails, fails-refused}
+use Rattle.trace.proofs.Fails.{Stage, first, second, later, RightSoFar, at-first, at-second, at-later, Next, version, start, comment, row, WrongNext, Fails, fails-refused}
 use Rattle.trace.proofs.Place.{barred-size}
 use Rattle.trace.proofs.Answers.{one-read}
 
 -- Lines with which some acceptable text begins: none is wrong.
-stands : {n : ℕ} {front : List ℕ} → Lines n front → Begins front → (g : Stage) × Stands n front g
+stands : {n : ℕ} {front : List ℕ} → EndedLines n front → Begins front → (g : Stage) × RightSoFar n front g
 stands no-lines b = (first, at-first)
 stands (lines-more f no-lines) b =
     let a = b .spelled in
@@ -32,41 +32,41 @@ stands (lines-more {n = n} f (lines-more {n = m} g ls)) b =
     (later (withRecords (b .trace) (c .before)), at-later head (lines-more f (lines-more g ls)) (c .first))
 
 -- Which of the three it is goes by their number.
-of-first : {n : ℕ} {front : List ℕ} {g : Stage} → Stands n front g → n ≡ 0 → g ≡ first
+of-first : {n : ℕ} {front : List ℕ} {g : Stage} → RightSoFar n front g → n ≡ 0 → g ≡ first
 of-first at-first e = refl
 of-first (at-second l w) e = absurd (omega arith)
 of-first (at-later m ls a) e = absurd (omega arith)
 
-of-second : {n : ℕ} {front : List ℕ} {g : Stage} → Stands n front g → n ≡ 1 → (v : ℕ) × (g ≡ second v)
+of-second : {n : ℕ} {front : List ℕ} {g : Stage} → RightSoFar n front g → n ≡ 1 → (v : ℕ) × (g ≡ second v)
 of-second at-first e = absurd (omega arith)
 of-second (at-second {v = v} l w) e = (v, refl)
 of-second (at-later m ls a) e = absurd (omega arith)
 
-of-later : {n : ℕ} {front : List ℕ} {g : Stage} (v : ℕ) → Stands n front g → headLines v ≤ n → (t : Trace) × (g ≡ later t)
+of-later : {n : ℕ} {front : List ℕ} {g : Stage} (v : ℕ) → RightSoFar n front g → headLines v ≤ n → (t : Trace) × (g ≡ later t)
 of-later v at-first e = absurd (omega arith)
 of-later v (at-second l w) e = absurd (omega arith)
 of-later v (at-later {t = t} m ls a) e = (t, refl)
 
 module _ {rest text : List ℕ} where
-  on-first : (r : Reached 0 rest text) → Stands 0 (r .front) first
+  on-first : (r : Reached 0 rest text) → RightSoFar 0 (r .front) first
   on-first r =
       let s = stands (r .lines) (r .begins) .1 in
       rw (of-first s refl) at s
 
-  on-second : (r : Reached 1 rest text) → (v : ℕ) × Stands 1 (r .front) (second v)
+  on-second : (r : Reached 1 rest text) → (v : ℕ) × RightSoFar 1 (r .front) (second v)
   on-second r =
       let s = stands (r .lines) (r .begins) .1 in
       let e = of-second s refl in
       (e .0, rw (e .1) at s)
 
-  on-later : {n : ℕ} (r : Reached n rest text) → PastHead r → (t : Trace) × Stands n (r .front) (later t)
+  on-later : {n : ℕ} (r : Reached n rest text) → PastHead r → (t : Trace) × RightSoFar n (r .front) (later t)
   on-later r m =
       let s = stands (r .lines) (r .begins) .1 in
       let e = of-later (r .begins .trace .version) s m in
       (e .0, rw (e .1) at s)
 
 -- Some acceptable text begins with them and a line that may stand next, within the size limit.
-goes-on : {n : ℕ} {front line : List ℕ} {g : Stage} → Stands n front g → Line line [] (endedLine line) → Next g line
+goes-on : {n : ℕ} {front line : List ℕ} {g : Stage} → RightSoFar n front g → Line line [] (endedLine line) → Next g line
     → length (front ++ endedLine line) ≤ sizeLimit → Begins (front ++ endedLine line)
 goes-on at-first l (version w) h = begins-version l w
 goes-on {line = line} (at-second f v) l (start w) h = begins-spelled (header (line-more (endedLine line) f) v l w) h
@@ -75,17 +75,17 @@ goes-on (at-later m ls a) l (row w) h = begins-spelled (spells-append a (body-ro
 
 module _ {text : List ℕ} (size : length text ≤ sizeLimit) where
   -- So a line with which none begins may not.
-  bars : {n : ℕ} {line : List ℕ} {g : Stage} (b : Barred n line text) → Stands n (b .reached .front) g → Next g line → ⊥
+  bars : {n : ℕ} {line : List ℕ} {g : Stage} (b : Barred n line text) → RightSoFar n (b .reached .front) g → Next g line → ⊥
   bars b s x =
       let l = b .there in
       b .never (goes-on s (record { first = first-alone (l .first .inside); short = l .short }) x (barred-size size b))
 
-  fails : {n number : ℕ} {rest : List ℕ} {g : Stage} (r : Reached n rest text) → Stands n (r .front) g → Stopped g rest number
+  fails : {n number : ℕ} {rest : List ℕ} {g : Stage} (r : Reached n rest text) → RightSoFar n (r .front) g → WrongNext g rest number
       → Fails text number (n + 1)
   fails r s x = record { n = _; front = r .front; rest = _; stage = _; whole = r .whole; stands = s; stopped = x; at = refl }
 
   -- A refusal says what the first wrong line is: the other way of `fails-refused`.
-  pub refused-fails : {number place : ℕ} → Refused text number place → Fails text number place
+  pub refused-fails : {number place : ℕ} → RefusedAtLine text number place → Fails text number place
   refused-fails (Promise.unended r x f) = fails r (stands (r .lines) (r .begins) .1) (Fails.unended x f)
   refused-fails (Promise.long r f l) = fails r (stands (r .lines) (r .begins) .1) (Fails.long f l)
   refused-fails (Promise.no-first r) = fails r (on-first r) Fails.no-first

@@ -12,7 +12,7 @@ use Rattle.row.specs.Row.{Row}
 use Rattle.lines.specs.Lines.{lineLimit, Inside, FirstLine, VersionLine, StartLine, Comment, DollarLine}
 use Rattle.trace.specs.Trace.{sizeLimit, Trace, Line, Body, Spells, Begins}
 use Rattle.trace.specs.Trace.{over as body-over, comment as body-comment, row as body-row}
-use Rattle.trace.specs.Promise.{Lines, Reached, Barred, Refused}
+use Rattle.trace.specs.Promise.{EndedLines, Reached, Barred, RefusedAtLine}
 use Rattle.trace.specs.Promise.{none as no-lines, line as lines-more}
 use Rattle.trace.specs.Promise
 use Rattle.lines.proofs.Theorems.{first-one, not-both}
@@ -28,10 +28,10 @@ pub data Stage : Type 0 where
   later : Trace → Stage
 
 -- The text `front` is n lines, none of them wrong.
-pub data Stands : ℕ → List ℕ → Stage → Type 0 where
-  at-first : Stands 0 [] first
-  at-second : {v : ℕ} {line front : List ℕ} → Line line [] front → VersionLine v line → Stands 1 front (second v)
-  at-later : {n : ℕ} {t : Trace} {front : List ℕ} → headLines (t .version) ≤ n → Lines n front → Spells t front → Stands n front (later t)
+pub data RightSoFar : ℕ → List ℕ → Stage → Type 0 where
+  at-first : RightSoFar 0 [] first
+  at-second : {v : ℕ} {line front : List ℕ} → Line line [] front → VersionLine v line → RightSoFar 1 front (second v)
+  at-later : {n : ℕ} {t : Trace} {front : List ℕ} → headLines (t .version) ≤ n → EndedLines n front → Spells t front → RightSoFar n front (later t)
 
 -- The line may stand next.
 pub data Next : Stage → List ℕ → Type 0 where
@@ -41,16 +41,16 @@ pub data Next : Stage → List ℕ → Type 0 where
   row : {t : Trace} {r : Record} {line : List ℕ} → Row (t .version) (1 + length (t .records)) r line → Next (later t) line
 
 -- What is left stops the text, with this number.
-pub data Stopped : Stage → List ℕ → ℕ → Type 0 where
-  unended : {g : Stage} {rest : List ℕ} → rest ≢ [] → ((line after : List ℕ) → FirstLine line after rest → ⊥) → Stopped g rest 2
-  long : {g : Stage} {line after rest : List ℕ} → FirstLine line after rest → lineLimit < length line → Stopped g rest 3
-  no-first : Stopped first [] 4
-  no-version : {line after rest : List ℕ} → Line line after rest → ((v : ℕ) → VersionLine v line → ⊥) → Stopped first rest 4
-  no-second : {v : ℕ} → Stopped (second v) [] 5
-  no-start : {v : ℕ} {line after rest : List ℕ} → Line line after rest → ((s : ℕ) → StartLine s line → ⊥) → Stopped (second v) rest 5
-  dollar : {t : Trace} {line after rest : List ℕ} → Line line after rest → DollarLine line → Stopped (later t) rest 6
+pub data WrongNext : Stage → List ℕ → ℕ → Type 0 where
+  unended : {g : Stage} {rest : List ℕ} → rest ≢ [] → ((line after : List ℕ) → FirstLine line after rest → ⊥) → WrongNext g rest 2
+  long : {g : Stage} {line after rest : List ℕ} → FirstLine line after rest → lineLimit < length line → WrongNext g rest 3
+  no-first : WrongNext first [] 4
+  no-version : {line after rest : List ℕ} → Line line after rest → ((v : ℕ) → VersionLine v line → ⊥) → WrongNext first rest 4
+  no-second : {v : ℕ} → WrongNext (second v) [] 5
+  no-start : {v : ℕ} {line after rest : List ℕ} → Line line after rest → ((s : ℕ) → StartLine s line → ⊥) → WrongNext (second v) rest 5
+  dollar : {t : Trace} {line after rest : List ℕ} → Line line after rest → DollarLine line → WrongNext (later t) rest 6
   no-row : {t : Trace} {line after rest : List ℕ} → Line line after rest → (Comment line → ⊥) → (DollarLine line → ⊥)
-      → ((r : Record) → Row (t .version) (1 + length (t .records)) r line → ⊥) → Stopped (later t) rest 7
+      → ((r : Record) → Row (t .version) (1 + length (t .records)) r line → ⊥) → WrongNext (later t) rest 7
 
 -- The first line that is wrong has this place, and the number says how.
 pub record Fails (text : List ℕ) (number place : ℕ) : Type 0 where
@@ -59,23 +59,23 @@ pub record Fails (text : List ℕ) (number place : ℕ) : Type 0 where
   pub rest : List ℕ
   pub stage : Stage
   pub whole : text ≡ front ++ rest
-  pub stands : Stands n front stage
-  pub stopped : Stopped stage rest number
+  pub stands : RightSoFar n front stage
+  pub stopped : WrongNext stage rest number
   pub at : place ≡ n + 1
 
 -- The lines so far are n lines,
-pub stands-lines : {n : ℕ} {front : List ℕ} {g : Stage} → Stands n front g → Lines n front
+pub stands-lines : {n : ℕ} {front : List ℕ} {g : Stage} → RightSoFar n front g → EndedLines n front
 stands-lines at-first = no-lines
 stands-lines (at-second l w) = lines-more {n = 0} (l .first) no-lines
 stands-lines (at-later m ls a) = ls
 
 -- with which some acceptable text begins.
-pub stands-begins : {n : ℕ} {front : List ℕ} {g : Stage} → Stands n front g → length front ≤ sizeLimit → Begins front
+pub stands-begins : {n : ℕ} {front : List ℕ} {g : Stage} → RightSoFar n front g → length front ≤ sizeLimit → Begins front
 stands-begins at-first h = begins-none
 stands-begins (at-second l w) h = begins-version l w
 stands-begins (at-later m ls a) h = begins-spelled a h
 
-pub stands-reached : {n : ℕ} {front rest text : List ℕ} {g : Stage} → Stands n front g → text ≡ front ++ rest → length text ≤ sizeLimit
+pub stands-reached : {n : ℕ} {front rest text : List ℕ} {g : Stage} → RightSoFar n front g → text ≡ front ++ rest → length text ≤ sizeLimit
     → Reached n rest text
 stands-reached {front = front} {rest = rest} s e h = record {
   front = front;
@@ -92,7 +92,7 @@ body-next f (body-comment l c h) = comment (rw (first-one (l .first) f .0) at c)
 body-next f (body-row l w h) = row (rw (first-one (l .first) f .0) at w)
 
 -- Whatever spells a trace and begins with these lines has behind them a line that may stand next.
-pub stands-next : {n : ℕ} {front line after rest : List ℕ} {g : Stage} {u : Trace} → Stands n front g → FirstLine line after rest
+pub stands-next : {n : ℕ} {front line after rest : List ℕ} {g : Stage} {u : Trace} → RightSoFar n front g → FirstLine line after rest
     → Spells u (front ++ rest) → Next g line
 stands-next at-first f a = version (rw (first-one (a .one .first) f .0) at (a .version))
 stands-next {rest = rest} (at-second l w) f a =
@@ -104,12 +104,12 @@ stands-next {rest = rest} (at-later {t = t} m ls b) f a =
     body-next f (subst (λ (x : Trace). Body (x .version) (1 + length (x .records)) (c .after) rest) e (c .second))
 
 -- So no acceptable text begins with them and a line that may not.
-pub stands-never : {n : ℕ} {front line : List ℕ} {g : Stage} → Stands n front g → All Inside line → (Next g line → ⊥)
+pub stands-never : {n : ℕ} {front line : List ℕ} {g : Stage} → RightSoFar n front g → All Inside line → (Next g line → ⊥)
     → Begins (front ++ endedLine line) → ⊥
 stands-never {front = front} {line = line} s i bars b =
     bars (stands-next s (first-there (b .rest) i) (rw append-assoc at (b .spelled)))
 
-barred : {n : ℕ} {front line after rest text : List ℕ} {g : Stage} → Stands n front g → text ≡ front ++ rest → length text ≤ sizeLimit
+barred : {n : ℕ} {front line after rest text : List ℕ} {g : Stage} → RightSoFar n front g → text ≡ front ++ rest → length text ≤ sizeLimit
     → Line line after rest → (Next g line → ⊥) → Barred n line text
 unfolding stands-reached
 barred {after = after} {rest = rest} s e h l bars = record {
@@ -137,8 +137,8 @@ not-row c r (comment x) = c x
 not-row c r (row w) = r _ w
 
 -- Each case is a refusal of the promise.
-pub stopped-refused : {n number : ℕ} {front rest text : List ℕ} {g : Stage} → Stands n front g → text ≡ front ++ rest
-    → length text ≤ sizeLimit → Stopped g rest number → Refused text number (n + 1)
+pub stopped-refused : {n number : ℕ} {front rest text : List ℕ} {g : Stage} → RightSoFar n front g → text ≡ front ++ rest
+    → length text ≤ sizeLimit → WrongNext g rest number → RefusedAtLine text number (n + 1)
 stopped-refused s e h (unended x bars) = Promise.unended (stands-reached s e h) x bars
 stopped-refused s e h (long f l) = Promise.long (stands-reached s e h) f l
 stopped-refused at-first e h no-first = Promise.no-first (stands-reached at-first e h)
@@ -148,5 +148,5 @@ stopped-refused (at-second f v) e h (no-start l bars) = Promise.no-start (barred
 stopped-refused (at-later m ls a) e h (dollar l d) = Promise.dollar (barred (at-later m ls a) e h l (not-dollar d)) m d
 stopped-refused (at-later m ls a) e h (no-row l c d r) = Promise.no-row (barred (at-later m ls a) e h l (not-row c r)) m d
 
-pub fails-refused : {text : List ℕ} {number place : ℕ} → length text ≤ sizeLimit → Fails text number place → Refused text number place
+pub fails-refused : {text : List ℕ} {number place : ℕ} → length text ≤ sizeLimit → Fails text number place → RefusedAtLine text number place
 fails-refused h f = rw (f .at) (stopped-refused (f .stands) (f .whole) h (f .stopped))

@@ -6,13 +6,14 @@ use mathlib.Core.List.{List, [], _∷_, _++_, append-nil, append-assoc}
 use native.Mathlib.Omega.{arith}
 use lib.ListN.{length, getD, take, drop, length-append, length-drop, take-append-drop, drop-of-length-le}
 use lib.Seq.{sets, sets-eq, drop-cons, take-at, drop-append-add, drop-drop}
+use Rattle.records.specs.inner.BackAfter.{BackAfter}
 use Rattle.base.proofs.Numbers.{below-or-not}
 use Rattle.record.specs.declared.Record.{Record}
 use Rattle.record.specs.Bytes.{bytes}
 use Rattle.record.specs.Record.{number, WellFormed}
 use Rattle.record.proofs.Bytes.{length-bytes}
 use Rattle.records.specs.Records.{packed}
-use Rattle.records.specs.StepBack.{stepBack, BackAfter}
+use Rattle.records.specs.StepBack.{stepBack}
 use Rattle.records.proofs.Packing.{packed-more, packed-length}
 use Rattle.records.proofs.StepBack.{lastOffset, last-more, back-keep, back-found, back-none}
 use Rattle.row.specs.Row.{Row}
@@ -21,9 +22,9 @@ use Rattle.row.proofs.One.{row-one}
 use Rattle.row.proofs.Plain.{row-starts, row-some}
 use Rattle.lines.specs.Lines.{FirstLine, Comment}
 use Rattle.trace.specs.Trace.{Trace, Line, Body, over, comment, row, SpellsFrom}
-use Rattle.trace.specs.Passes.{There, Bars, Headed, Fits, Filled}
+use Rattle.trace.specs.inner.Passes.{There, Bars, Headed, RecordsFit, Filled}
 use Rattle.trace.proofs.Rows.{Rowed}
-use Rattle.trace.specs.Passes
+use Rattle.trace.specs.inner.Passes
 use Rattle.trace.proofs.Cuts.{spells-none, spells-cut}
 use Rattle.lines.proofs.Theorems.{first-one, not-both}
 use Rattle.trace.proofs.Apart.{no-line, row-no-comment, row-no-dollar}
@@ -58,7 +59,7 @@ pub record Filling (first : ℕ) (text old out : List ℕ) (version start at o r
   pub latest : last ≡ lastOffset before
   pub stepped : back ≡ stepBack before
 
-pub filling : {first : ℕ} {text old : List ℕ} {version start at : ℕ} → Headed text at version start → Fits first text old version start
+pub filling : {first : ℕ} {text old : List ℕ} {version start at : ℕ} → Headed text at version start → RecordsFit first text old version start
     → Filling first text old old version start at 0 0 0 0
 unfolding packed stepBack
 filling {text = text} {at = at} h f =

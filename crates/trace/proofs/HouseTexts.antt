@@ -17,7 +17,7 @@ use Rattle.row.specs.House.{rowText}
 use Rattle.row.proofs.Spelled.{row-size}
 use Rattle.lines.specs.Lines.{startText}
 use Rattle.trace.specs.Trace.{Trace}
-use Rattle.trace.specs.House.{versionLineText, dayFraction, startLineText, rowsText, traceText, Carried}
+use Rattle.trace.specs.House.{versionLineText, fractionOfDay, startLineText, rowsText, traceText, Carried}
 
 -- Each text, as it is defined.
 
@@ -26,12 +26,12 @@ unfolding versionLineText
 version-line version = refl
 
 pub start-line : (start : ℕ) → startLineText start
-    ≡ (59 ∷ startText) ++ (decimalText (start / dayMs) ++ (46 ∷ paddedText 10 (dayFraction (start % dayMs))))
+    ≡ (59 ∷ startText) ++ (decimalText (start / dayMs) ++ (46 ∷ paddedText 10 (fractionOfDay (start % dayMs))))
 unfolding startLineText
 start-line start = refl
 
-pub day-fraction : (ms : ℕ) → DayFraction ms (dayFraction ms)
-unfolding dayFraction
+pub day-fraction : (ms : ℕ) → DayFraction ms (fractionOfDay ms)
+unfolding fractionOfDay
 day-fraction ms = record { low = omega arith; high = omega arith }
 
 pub rows-none : (version k : ℕ) → rowsText version k [] ≡ []
@@ -64,7 +64,7 @@ version-line-length version = rw version-line
 pub start-line-size : (start : ℕ) → start ≤ startLimit → length (startLineText start) ≤ 28
 start-line-size start h =
     let d = few 4 (start / dayMs) (omega arith) in
-    let p = length-fixed figureOf 10 10 (dayFraction (start % dayMs)) in
+    let p = length-fixed figureOf 10 10 (fractionOfDay (start % dayMs)) in
     simp (start-line, length-append) (omega arith)
 
 -- At most 64 bytes a row, and its end.

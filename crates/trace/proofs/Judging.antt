@@ -11,12 +11,12 @@ use Rattle.row.specs.Row.{Row}
 use Rattle.lines.specs.Lines.{Comment}
 use Rattle.trace.specs.declared.Judged.the-variants as judged
 use Rattle.trace.specs.Trace.{sizeLimit, Trace, Line, Body, over, comment, row, SpellsFrom}
-use Rattle.trace.specs.Promise.{Lines, Refused}
-use Rattle.trace.specs.Passes.{There, NoRow, Bars, Headed, Judges}
+use Rattle.trace.specs.Promise.{EndedLines, RefusedAtLine}
+use Rattle.trace.specs.inner.Passes.{There, NoRow, Bars, Headed, Judges}
 use Rattle.trace.specs.Promise
-use Rattle.trace.specs.Passes
+use Rattle.trace.specs.inner.Passes
 use Rattle.trace.proofs.Cuts.{endedLine, first-alone, first-whole, lines-alone, lines-append, spells-none, spells-append}
-use Rattle.trace.proofs.Fails.{at-later, Stopped, later, stopped-refused}
+use Rattle.trace.proofs.Fails.{at-later, WrongNext, later, stopped-refused}
 use Rattle.trace.proofs.Fails
 
 -- The lines up to `at` are judged: they spell these records, and the first row has number `first`.
@@ -25,13 +25,13 @@ pub record Judging (first : ℕ) (text : List ℕ) (version start at place rows 
   pub few : rows ≤ at
   pub near : place ≤ at
   pub head : headLines version ≤ place
-  pub lines : Lines place (take at text)
+  pub lines : EndedLines place (take at text)
   pub records : List Record
   pub spelled : SpellsFrom first (record { version = version; start = start; records = records }) (take at text)
   pub counted : rows ≡ length records
 
 -- Each line has two bytes at the least, its end.
-lines-near : {n : ℕ} {s : List ℕ} → Lines n s → n ≤ length s
+lines-near : {n : ℕ} {s : List ℕ} → EndedLines n s → n ≤ length s
 lines-near Promise.none = omega arith
 lines-near (Promise.line {l = l} {rest = rest} f ls) = omega (arith, ap length (f .ended) ∙ length-append l (13 ∷ 10 ∷ rest), lines-near ls)
 
@@ -62,7 +62,7 @@ up-to {text} {at} {next} {line} t =
 module _ {first : ℕ} {text : List ℕ} {version start at place rows : ℕ} (j : Judging first text version start at place rows) where
   -- one line more, with these records on it
   line-more : {next : ℕ} {line : List ℕ} (bs : List Record) → There text at next line → Body version (first + length (j .records)) bs (endedLine line)
-      → Lines (place + 1) (take next text) × SpellsFrom first (record { version = version; start = start; records = j .records ++ bs }) (take next text)
+      → EndedLines (place + 1) (take next text) × SpellsFrom first (record { version = version; start = start; records = j .records ++ bs }) (take next text)
   line-more bs t b =
       let e = up-to t in
       (rw e (lines-append (j .lines) (lines-alone (t .is .first .inside))), rw e (spells-append (j .spelled) b))
@@ -117,7 +117,7 @@ module _ {text : List ℕ} {version start at place rows k : ℕ} (j : Judging 1 
   abbrev so-far : Trace
   so-far = record { version = version; start = start; records = j .records }
 
-  stops : {n : ℕ} → at < length text → NoRow text at version k → Bars (drop at text) n → Stopped (later so-far) (drop at text) n
+  stops : {n : ℕ} → at < length text → NoRow text at version k → Bars (drop at text) n → WrongNext (later so-far) (drop at text) n
   stops h r (Passes.unended f) = Fails.unended {rest = drop at text} (λ e. omega (arith, ap length e, length-drop at text)) f
   stops h r (Passes.long f l) = Fails.long f l
   stops h r (Passes.dollar l d) = Fails.dollar l d
@@ -125,5 +125,5 @@ module _ {text : List ℕ} {version start at place rows k : ℕ} (j : Judging 1 
       let e : 1 + length (j .records) ≡ k = omega (arith, j .counted) in
       Fails.no-row {t = so-far} l c d (λ x w. r x _ _ l (rw e at w))
 
-  pub refused-line : {n : ℕ} → length text ≤ sizeLimit → at < length text → NoRow text at version k → Bars (drop at text) n → Refused text n (place + 1)
+  pub refused-line : {n : ℕ} → length text ≤ sizeLimit → at < length text → NoRow text at version k → Bars (drop at text) n → RefusedAtLine text n (place + 1)
   refused-line s h r b = stopped-refused (at-later (j .head) (j .lines) (j .spelled)) (sym (take-append-drop at text)) s (stops h r b)

@@ -7,7 +7,7 @@ use lib.ListN.{length, take, drop}
 use lib.Seq.{slice, take-at, length-slice}
 use Rattle.fields.proofs.Window.{slice-drop}
 use Rattle.lines.specs.Lines.{lineLimit, FirstLine}
-use Rattle.trace.specs.Passes.{There}
+use Rattle.trace.specs.inner.Passes.{There}
 
 -- A lent part is the slice.
 pub part-slice : (at e : ℕ) (l : List ℕ) → at ≤ e → e ≤ length l → take (e - at) (drop at l) ≡ slice at e l

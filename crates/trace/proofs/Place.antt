@@ -9,7 +9,7 @@ use Rattle.lines.specs.Lines.{lineLimit, Inside, FirstLine}
 use Rattle.trace.specs.declared.Outcome.the-variants as outcome
 use Rattle.trace.specs.Trace.{sizeLimit, Trace, Spells, Begins}
 use Rattle.trace.specs.Promise
-use Rattle.trace.specs.Promise.{readNumbers, Lines, Reached, Barred, Refused, ReadPromise, large, done, no-room, refused}
+use Rattle.trace.specs.Promise.{readNumbers, EndedLines, Reached, Barred, RefusedAtLine, ReadPromise, large, done, no-room, refused}
 use Rattle.trace.proofs.Cuts.{endedLine, first-there, first-whole, lines-alone, lines-append}
 use Rattle.trace.proofs.Beginnings.{begins-cut, spells-shorts, shorts-after, shorts-first}
 
@@ -20,7 +20,7 @@ pub record Place (text : List ℕ) (place : ℕ) : Type 0 where
   pub line : List ℕ
   pub rest : List ℕ
   pub whole : text ≡ front ++ (line ++ (13 ∷ 10 ∷ rest))
-  pub before : Lines n front
+  pub before : EndedLines n front
   pub inside : All Inside line
   pub at : place ≡ n + 1
   -- the lines before begin some acceptable text
@@ -32,7 +32,7 @@ pub record Place (text : List ℕ) (place : ℕ) : Type 0 where
 pub record Absent (text : List ℕ) (place : ℕ) : Type 0 where
   pub n : ℕ
   pub few : n < 2
-  pub whole : Lines n text
+  pub whole : EndedLines n text
   pub at : place ≡ n + 1
   pub begins : Begins text
 
@@ -85,7 +85,7 @@ missing {n} {text} l r =
     absent (record { n = n; few = l; whole = rw e at (r .lines); at = refl; begins = rw e at (r .begins) })
 
 -- For every refusal 3 to 7.
-pub place : {text : List ℕ} {number p : ℕ} → length text ≤ sizeLimit → Refused text number p → 3 ≤ number → Placed text p
+pub place : {text : List ℕ} {number p : ℕ} → length text ≤ sizeLimit → RefusedAtLine text number p → 3 ≤ number → Placed text p
 place h (Promise.unended r x f) m = absurd (omega arith)
 place h (Promise.long r f l) m = placed r f (never-long r f l)
 place h (Promise.no-first r) m = missing (omega arith) r

@@ -8,17 +8,17 @@ use native.Mathlib.Omega.{arith}
 use native.Mathlib.Decide.{decLt}
 use lib.ListN.{length, getD, take, drop, length-append, length-drop, take-append-drop}
 use lib.Seq.{drop-at, drop-cons, drop-drop, drop-append-add, drop-append-le, take-add, take-append-add, length-take-le}
-use Rattle.fields.specs.Window.{LineOf, Lined}
+use Rattle.fields.specs.inner.Window.{LineBeforeCr, Lined}
 use Rattle.fields.proofs.Runs.{all-map}
 use Rattle.record.specs.declared.Record.{Record}
 use Rattle.record.specs.Record.{recordOf}
 use Rattle.row.specs.Row.{Row}
 use Rattle.row.proofs.Plain.{row-plain}
-use Rattle.row_reader.specs.Answer.{RowFound, row-found, no-row}
+use Rattle.row_reader.specs.inner.Answer.{RowFound, row-found, no-row}
 use Rattle.lines.specs.Lines.{lineLimit}
 use Rattle.row_reader.proofs.Whole.{framed}
 use Rattle.trace.specs.Trace.{Line}
-use Rattle.trace.specs.Passes.{There, mostHeld, Reaches, NoRow, RowAt, here, nowhere}
+use Rattle.trace.specs.inner.Passes.{There, mostHeld, Reaches, NoRow, RowAt, here, nowhere}
 
 -- What stands behind CR is the rest of the text.
 behind : (text line more : List ℕ) (at feed : ℕ) → drop at text ≡ line ++ (13 ∷ more) → feed ≡ at + suc (length line) → more ≡ drop feed text
@@ -42,9 +42,9 @@ drop-taken s i n h k =
     ap (λ (x : ℕ). drop i (take x s)) m ∙ ap (drop i) (take-add i (n - i) s) ∙ drop-at (take i s) (take (n - i) (drop i s)) i (length-take-le i s (omega arith))
 
 view : {text w : List ℕ} {at from : ℕ} (reach : Reaches text at from w) → at ≤ length text
-    → View text at (drop (at - from) w) (reach .holds .held - (at - from))
+    → View text at (drop (at - from) w) (reach .windowed .held - (at - from))
 view {text} {w} {at} {from} reach inside =
-    let h = reach .holds in
+    let h = reach .windowed in
     let n = h .held in
     let i = at - from in
     let a = h .within in
@@ -62,15 +62,15 @@ view {text} {w} {at} {from} reach inside =
       most = λ l. let m = h .most (omega arith) in omega arith;
     }
   where
-    by : Dec (reach .holds .held < mostHeld) → at - from ≤ reach .holds .held
-    by (yes l) = let m = reach .holds .most l in omega arith
+    by : Dec (reach .windowed .held < mostHeld) → at - from ≤ reach .windowed .held
+    by (yes l) = let m = reach .windowed .most l in omega arith
     by (no l) = let c = reach .room in omega arith
 
 -- A CR stands in the window.
 pub lined : {text w : List ℕ} {at from : ℕ} → Reaches text at from w → at ≤ length text → Lined (drop (at - from) w)
 lined {text} {at = at} {from = from} reach inside =
     let v = view reach inside in
-    let x = framed (take (reach .holds .held - (at - from)) (drop at text)) (v .over) in
+    let x = framed (take (reach .windowed .held - (at - from)) (drop at text)) (v .over) in
     record { line = x .line; is = rw (v .bytes) (x .is) }
 
 -- A line without CR that is short and ended stands in the window too.
@@ -96,7 +96,7 @@ module _ {text s : List ℕ} {at n : ℕ} (win : View text at s n) {line after :
       ap (take n) (l .first .ended) ∙ ap (λ (i : ℕ). take i (line ++ (13 ∷ 10 ∷ after))) m ∙ take-append-add line (13 ∷ 10 ∷ after) (suc (n - length line - 1)) in
       win .bytes ∙ ap (λ (x : List ℕ). x ++ (13 ∷ win .over)) t ∙ append-assoc line (13 ∷ rest) (13 ∷ win .over)
 
-  in-window : LineOf line s
+  in-window : LineBeforeCr line s
   in-window = record { rest = _; plain = all-map (λ b p. p .cr) (l .first .inside); ended = framed-line }
 
 -- Behind the CR of a line stand LF and the next line.
@@ -109,9 +109,9 @@ next-byte text at {feed} {line} {after} l y =
     (h, cc)
 
 module _ {text w fields : List ℕ} {at from version k e : ℕ} (reach : Reaches text at from w) (inside : at ≤ length text)
-    (read : (line : List ℕ) → LineOf line (drop (at - from) w) → RowFound version k (at - from) line fields e) where
+    (read : (line : List ℕ) → LineBeforeCr line (drop (at - from) w) → RowFound version k (at - from) line fields e) where
   abbrev n : ℕ
-  n = reach .holds .held - (at - from)
+  n = reach .windowed .held - (at - from)
 
   abbrev front : List ℕ
   front = take n (drop at text)

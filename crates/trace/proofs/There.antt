@@ -24,7 +24,7 @@ use Rattle.row.proofs.Plain.{row-plain}
 use Rattle.lines.specs.Lines.{Inside, startText, StartLine}
 use Rattle.lines.proofs.Theorems.{version-line-text, version-line-inside, start-line-of, start-line-inside}
 use Rattle.trace.specs.Trace.{sizeLimit, Trace, Body, over, comment, row, SpellsFrom, Spells}
-use Rattle.trace.specs.House.{versionLineText, dayFraction, startLineText, rowsText, traceText, Carried, Writable}
+use Rattle.trace.specs.House.{versionLineText, fractionOfDay, startLineText, rowsText, traceText, Carried, Writable}
 use Rattle.trace.proofs.HouseTexts.{version-line, start-line, day-fraction, rows-none, rows-more, trace-text, version-line-length, start-line-size, rows-size}
 use Rattle.trace.proofs.One.{one-trace}
 
@@ -37,8 +37,8 @@ point-inside : Inside 46
 point-inside = record { cr = λ e. omega arith; lf = λ e. omega arith }
 
 module _ (start : ℕ) where
-  fraction-spelled : Padded 10 (dayFraction (start % dayMs)) (paddedText 10 (dayFraction (start % dayMs)))
-  fraction-spelled = padded-spells 10 (dayFraction (start % dayMs)) (fraction-fits (day-fraction (start % dayMs)) (omega arith))
+  fraction-spelled : Padded 10 (fractionOfDay (start % dayMs)) (paddedText 10 (fractionOfDay (start % dayMs)))
+  fraction-spelled = padded-spells 10 (fractionOfDay (start % dayMs)) (fraction-fits (day-fraction (start % dayMs)) (omega arith))
 
   start-spelled : start ≤ startLimit → StartLine start (startLineText start)
   start-spelled h =
@@ -50,7 +50,7 @@ module _ (start : ℕ) where
         days = d;
         count = decimal-spells d;
         few = few 4 d (omega arith);
-        parts = dayFraction m;
+        parts = fractionOfDay m;
         digits = record { digits = p .digits; width = refl };
         some = omega (arith, p .width);
         short = omega (arith, p .width);

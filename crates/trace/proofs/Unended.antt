@@ -11,7 +11,7 @@ use Rattle.lines.specs.Lines.{Inside, FirstLine}
 use Rattle.lines.proofs.Theorems.{feed-alone, return-alone}
 use Rattle.trace.specs.Trace.{Trace, Spells, Begins}
 use Rattle.trace.specs.Promise
-use Rattle.trace.specs.Promise.{Lines, Refused}
+use Rattle.trace.specs.Promise.{EndedLines, RefusedAtLine}
 use Rattle.trace.proofs.Beginnings.{Shorts, no-more, one-more, spells-shorts, shorts-after}
 
 -- A line and a wrong end: LF, or CR and another byte.
@@ -68,7 +68,7 @@ no-shorts : {s : List ℕ} (other : List ℕ) → Stray s → Shorts (s ++ other
 no-shorts other (feed {line = l} a e) h = some-line l 10 other (λ line after x. feed-alone other a x) (rw (e, append-assoc) at h)
 no-shorts other (return {line = l} {b = b} a n e) h = some-line l 13 (b ∷ other) (λ line after x. return-alone other a n x) (rw (e, append-assoc) at h)
 
-pub never-stray : {n : ℕ} {front s : List ℕ} → Lines n front → Stray s → (other : List ℕ) (t : Trace) → Spells t (front ++ (s ++ other)) → ⊥
+pub never-stray : {n : ℕ} {front s : List ℕ} → EndedLines n front → Stray s → (other : List ℕ) (t : Trace) → Spells t (front ++ (s ++ other)) → ⊥
 never-stray {s = s} ls w other t a = no-shorts other w (shorts-after (s ++ other) ls refl (spells-shorts a))
 
 -- The line at this place, which has no end.
@@ -77,7 +77,7 @@ pub record Open (text : List ℕ) (place : ℕ) : Type 0 where
   pub front : List ℕ
   pub rest : List ℕ
   pub whole : text ≡ front ++ rest
-  pub before : Lines n front
+  pub before : EndedLines n front
   pub at : place ≡ n + 1
   -- the lines before begin some acceptable text
   pub begins : Begins front
@@ -86,7 +86,7 @@ pub record Open (text : List ℕ) (place : ℕ) : Type 0 where
   -- nothing that begins with them and this line, up to its wrong end, spells a trace, however it goes on
   pub never : (s : List ℕ) → Stray s → (other : List ℕ) (t : Trace) → Spells t (front ++ (s ++ other)) → ⊥
 
-pub place-open : {text : List ℕ} {p : ℕ} → Refused text 2 p → Open text p
+pub place-open : {text : List ℕ} {p : ℕ} → RefusedAtLine text 2 p → Open text p
 place-open (Promise.unended {n = n} {rest = rest} r x f) = record {
   n = n;
   front = r .front;

@@ -19,12 +19,12 @@ unfoldable pub versionLineText : ℕ → List ℕ
 versionLineText version = semicolon ∷ versionText version
 
 -- The fraction of the day, in ten digits: the day's milliseconds times 10,000,000,000 over 86,400,000, to nearest, halves up.
-unfoldable pub dayFraction : ℕ → ℕ
-dayFraction ms = (2 * (ms * 10 ^ 10) + dayMs) / (2 * dayMs)
+unfoldable pub fractionOfDay : ℕ → ℕ
+fractionOfDay ms = (2 * (ms * 10 ^ 10) + dayMs) / (2 * dayMs)
 
 -- `;$STARTTIME=`, the days without leading zeros, a point and the ten digits, without blanks: line 2.
 unfoldable pub startLineText : ℕ → List ℕ
-startLineText start = semicolon ∷ (startText ++ (decimalText (start / dayMs) ++ (point ∷ paddedText 10 (dayFraction (start % dayMs)))))
+startLineText start = semicolon ∷ (startText ++ (decimalText (start / dayMs) ++ (point ∷ paddedText 10 (fractionOfDay (start % dayMs)))))
 
 -- The rows from number k on, each ended by CR LF.
 unfoldable pub rowsText : ℕ → ℕ → List Record → List ℕ

@@ -1,4 +1,4 @@
 pub mod Trace
 pub mod House
 pub mod Promise
-pub mod Passes
+pub mod inner

@@ -19,15 +19,15 @@ readNumbers (outcome.Done v s n b) = 0 ∷ 0 ∷ v ∷ s ∷ n ∷ b ∷ []
 readNumbers (outcome.Refused n p) = n ∷ p ∷ 0 ∷ 0 ∷ 0 ∷ 0 ∷ []
 
 -- The text is n ended lines.
-pub data Lines : ℕ → List ℕ → Type 0 where
-  none : Lines 0 []
-  line : {n : ℕ} {l rest text : List ℕ} → FirstLine l rest text → Lines n rest → Lines (n + 1) text
+pub data EndedLines : ℕ → List ℕ → Type 0 where
+  none : EndedLines 0 []
+  line : {n : ℕ} {l rest text : List ℕ} → FirstLine l rest text → EndedLines n rest → EndedLines (n + 1) text
 
 -- The text is n ended lines, `front`, with which some acceptable text begins, and then rest.
 pub record Reached (n : ℕ) (rest text : List ℕ) : Type 0 where
   pub front : List ℕ
   pub whole : text ≡ front ++ rest
-  pub lines : Lines n front
+  pub lines : EndedLines n front
   pub begins : Begins front
 
 -- They are the head lines of their version, or more: behind them stand comments and rows.
@@ -45,17 +45,17 @@ pub record Barred (n : ℕ) (line text : List ℕ) : Type 0 where
 -- The text is refused with this number at this line: the lines before it begin some acceptable text, and
 -- 2, what is left is not empty and starts with no ended line; 3, the line has more than 250 bytes; 4 and 5, line 1 or 2 is absent, or no
 -- acceptable text begins so; 6, from line 3 on, a comment with `$` first; 7, from line 3 on, any other line with which none begins.
-pub data Refused (text : List ℕ) : ℕ → ℕ → Type 0 where
+pub data RefusedAtLine (text : List ℕ) : ℕ → ℕ → Type 0 where
   unended : {n : ℕ} {rest : List ℕ} → Reached n rest text → rest ≢ [] → ((line after : List ℕ) → FirstLine line after rest → ⊥)
-      → Refused text 2 (n + 1)
+      → RefusedAtLine text 2 (n + 1)
   long : {n : ℕ} {rest line after : List ℕ} → Reached n rest text → FirstLine line after rest → lineLimit < length line
-      → Refused text 3 (n + 1)
-  no-first : Reached 0 [] text → Refused text 4 1
-  no-version : {line : List ℕ} → Barred 0 line text → Refused text 4 1
-  no-second : Reached 1 [] text → Refused text 5 2
-  no-start : {line : List ℕ} → Barred 1 line text → Refused text 5 2
-  dollar : {n : ℕ} {line : List ℕ} (b : Barred n line text) → PastHead (b .reached) → DollarLine line → Refused text 6 (n + 1)
-  no-row : {n : ℕ} {line : List ℕ} (b : Barred n line text) → PastHead (b .reached) → (DollarLine line → ⊥) → Refused text 7 (n + 1)
+      → RefusedAtLine text 3 (n + 1)
+  no-first : Reached 0 [] text → RefusedAtLine text 4 1
+  no-version : {line : List ℕ} → Barred 0 line text → RefusedAtLine text 4 1
+  no-second : Reached 1 [] text → RefusedAtLine text 5 2
+  no-start : {line : List ℕ} → Barred 1 line text → RefusedAtLine text 5 2
+  dollar : {n : ℕ} {line : List ℕ} (b : Barred n line text) → PastHead (b .reached) → DollarLine line → RefusedAtLine text 6 (n + 1)
+  no-row : {n : ℕ} {line : List ℕ} (b : Barred n line text) → PastHead (b .reached) → (DollarLine line → ⊥) → RefusedAtLine text 7 (n + 1)
 
 -- `read` of a text, into an output that held `before` and then holds `after`, gives the numbers a.
 pub data ReadPromise (text before a after : List ℕ) : Type 0 where
@@ -69,5 +69,5 @@ pub data ReadPromise (text before a after : List ℕ) : Type 0 where
   no-room : {t : Trace} → length text ≤ sizeLimit → Spells t text → length before < 20 * length (t .records)
       → a ≡ readNumbers (outcome.Refused 8 0) → after ≡ before → ReadPromise text before a after
   -- none is: the refusal of the first line that stops it
-  refused : {n p : ℕ} → length text ≤ sizeLimit → Refused text n p → a ≡ readNumbers (outcome.Refused n p) → after ≡ before
+  refused : {n p : ℕ} → length text ≤ sizeLimit → RefusedAtLine text n p → a ≡ readNumbers (outcome.Refused n p) → after ≡ before
       → ReadPromise text before a after

@@ -15,7 +15,7 @@ ghost use Prim.Native.Nat.{_≤_};
 ghost use lib.ListN.{length};
 ghost use Rattle.trace.specs.Trace.{sizeLimit};
 ghost use Rattle.trace.specs.Promise.{readNumbers, ReadPromise};
-ghost use Rattle.trace.specs.Passes.{Windowed, Reaches, RowAt, Says, Versioned, Headed, Heads, Judges, Fits, Filled};
+ghost use Rattle.trace.specs.inner.Passes.{Windowed, Reaches, RowAt, Says, Versioned, Headed, Heads, Judges, RecordsFit, Filled};
 
 // The most bytes of a text.
 pub const SIZE_LIMIT: usize = 134_217_728;
@@ -242,7 +242,7 @@ fn judge(text: &[u8], from: usize, version: u64, start: u64) -> Judged
 // The second pass: the records of the rows are packed into the output, which has room for them, and the first step back is found. No line is
 // refused any more: what starts with `;` is a comment, and all else a row.
 fn fill(text: &[u8], from: usize, version: u64, start: u64, out: &mut [u8]) -> u64
-    requires { ⌜ Headed (now text) from version start × Fits 1 (now text) (now out) version start ⌝ }
+    requires { ⌜ Headed (now text) from version start × RecordsFit 1 (now text) (now out) version start ⌝ }
     ensures { λ b. ⌜ Filled 1 (now (text .entry)) (now (out .entry)) (now (out .exit)) b ⌝ }
 {
     let mut at = from;

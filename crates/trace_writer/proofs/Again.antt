@@ -9,7 +9,7 @@ use Rattle.record.specs.declared.Record.{Record}
 use Rattle.records.specs.Records.{packed}
 use Rattle.records.specs.StepBack.{stepBack}
 use Rattle.records.proofs.Packing.{packed-length}
-use Rattle.records.proofs.Records.{holds-one}
+use Rattle.records.proofs.Records.{packs-all-one}
 use Rattle.trace.specs.declared.Outcome.the-variants as outcome
 use Rattle.trace.specs.Trace.{sizeLimit, Trace, Spells, traceOf}
 use Rattle.trace.specs.Promise.{readNumbers, ReadPromise}
@@ -107,7 +107,7 @@ again {rows = rows} {steps = steps} {page = page} p q l g =
     let r = read-done p in
     let w = answers.written q in
     let e : w .0 ≡ r .records =
-    holds-one (record { formed = w .1 .formed; bytes = w .2 }) (record { formed = read-writable (r .spelled) .formed; bytes = r .front }) in
+    packs-all-one (record { formed = w .1 .formed; bytes = w .2 }) (record { formed = read-writable (r .spelled) .formed; bytes = r .front }) in
     let n : length (w .0) ≡ rows = ap length e ∙ sym (r .counted) in
     let k : stepBack (w .0) ≡ steps = ap stepBack e ∙ sym (r .stepped) in
     let z = house-read page (w .1) (w .3) (w .4) (omega arith) g in

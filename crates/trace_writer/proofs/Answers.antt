@@ -8,17 +8,17 @@ use lib.ListN.{length, take, drop, length-append}
 use lib.Seq.{take-at}
 use Rattle.clock.specs.Start.{startLimit}
 use Rattle.record.specs.declared.Record.{Record}
-use Rattle.records.specs.Records.{packed, Whole, Holds, FirstMalformed}
+use Rattle.records.specs.Records.{packed, Whole, PacksAll, FirstMalformed}
 use Rattle.records.proofs.Lists.{each-at, first-one}
 use Rattle.records.proofs.Packing.{packed-length}
-use Rattle.records.proofs.Records.{holds-one, malformed-one, none-malformed}
+use Rattle.records.proofs.Records.{packs-all-one, malformed-one, none-malformed}
 use Rattle.row.specs.Versions.{Version}
 use Rattle.trace.specs.House.{traceText, Writable}
 use Rattle.trace.specs.Trace.{Trace, traceOf}
 use Rattle.trace.proofs.HouseTexts.{trace-text}
 use Rattle.trace_writer.specs.declared.Written.{Written}
 use Rattle.trace_writer.specs.declared.Written.the-variants as answer
-use Rattle.trace_writer.specs.Promise.{writeNumbers, FirstMisfit, Stopped, WritePromise}
+use Rattle.trace_writer.specs.Promise.{writeNumbers, FirstMisfit, WriteStopped, WritePromise}
 
 -- The first misfit stands at one place.
 misfit-one : {version p q : ℕ} {rs : List Record} → FirstMisfit version rs p → FirstMisfit version rs q → p ≡ q
@@ -27,44 +27,44 @@ misfit-one f g =
     omega (arith, f .at, g .at, l)
 
 -- Refusals 20 to 24 have one number at one place.
-pub stopped-one : {version start a b p q : ℕ} {s : List ℕ} → Stopped version start s a p → Stopped version start s b q
+pub stopped-one : {version start a b p q : ℕ} {s : List ℕ} → WriteStopped version start s a p → WriteStopped version start s b q
     → (a ≡ b) × (p ≡ q)
-stopped-one (Stopped.no-records f) (Stopped.no-records g) = (refl, refl)
-stopped-one (Stopped.no-records f) (Stopped.no-version w g) = absurd (f w)
-stopped-one (Stopped.no-records f) (Stopped.late w v l) = absurd (f w)
-stopped-one (Stopped.no-records f) (Stopped.malformed w v l g) = absurd (f w)
-stopped-one (Stopped.no-records f) (Stopped.misfit w v l h g) = absurd (f w)
-stopped-one (Stopped.no-version x f) (Stopped.no-records g) = absurd (g x)
-stopped-one (Stopped.no-version x f) (Stopped.no-version w g) = (refl, refl)
-stopped-one (Stopped.no-version x f) (Stopped.late w v l) = absurd (f v)
-stopped-one (Stopped.no-version x f) (Stopped.malformed w v l g) = absurd (f v)
-stopped-one (Stopped.no-version x f) (Stopped.misfit w v l h g) = absurd (f v)
-stopped-one (Stopped.late x u k) (Stopped.no-records g) = absurd (g x)
-stopped-one (Stopped.late x u k) (Stopped.no-version w g) = absurd (g u)
-stopped-one (Stopped.late x u k) (Stopped.late w v l) = (refl, refl)
-stopped-one (Stopped.late x u k) (Stopped.malformed w v l g) = absurd (omega arith)
-stopped-one (Stopped.late x u k) (Stopped.misfit w v l h g) = absurd (omega arith)
-stopped-one (Stopped.malformed x u k f) (Stopped.no-records g) = absurd (g x)
-stopped-one (Stopped.malformed x u k f) (Stopped.no-version w g) = absurd (g u)
-stopped-one (Stopped.malformed x u k f) (Stopped.late w v l) = absurd (omega arith)
-stopped-one (Stopped.malformed x u k f) (Stopped.malformed w v l g) = (refl, malformed-one f g)
-stopped-one (Stopped.malformed x u k f) (Stopped.misfit w v l h g) = absurd (none-malformed h f)
-stopped-one (Stopped.misfit x u k i f) (Stopped.no-records g) = absurd (g x)
-stopped-one (Stopped.misfit x u k i f) (Stopped.no-version w g) = absurd (g u)
-stopped-one (Stopped.misfit x u k i f) (Stopped.late w v l) = absurd (omega arith)
-stopped-one (Stopped.misfit x u k i f) (Stopped.malformed w v l g) = absurd (none-malformed i g)
-stopped-one (Stopped.misfit x u k i f) (Stopped.misfit w v l h g) = (refl, misfit-one (rw (holds-one i h) at f) g)
+stopped-one (WriteStopped.no-records f) (WriteStopped.no-records g) = (refl, refl)
+stopped-one (WriteStopped.no-records f) (WriteStopped.no-version w g) = absurd (f w)
+stopped-one (WriteStopped.no-records f) (WriteStopped.late w v l) = absurd (f w)
+stopped-one (WriteStopped.no-records f) (WriteStopped.malformed w v l g) = absurd (f w)
+stopped-one (WriteStopped.no-records f) (WriteStopped.misfit w v l h g) = absurd (f w)
+stopped-one (WriteStopped.no-version x f) (WriteStopped.no-records g) = absurd (g x)
+stopped-one (WriteStopped.no-version x f) (WriteStopped.no-version w g) = (refl, refl)
+stopped-one (WriteStopped.no-version x f) (WriteStopped.late w v l) = absurd (f v)
+stopped-one (WriteStopped.no-version x f) (WriteStopped.malformed w v l g) = absurd (f v)
+stopped-one (WriteStopped.no-version x f) (WriteStopped.misfit w v l h g) = absurd (f v)
+stopped-one (WriteStopped.late x u k) (WriteStopped.no-records g) = absurd (g x)
+stopped-one (WriteStopped.late x u k) (WriteStopped.no-version w g) = absurd (g u)
+stopped-one (WriteStopped.late x u k) (WriteStopped.late w v l) = (refl, refl)
+stopped-one (WriteStopped.late x u k) (WriteStopped.malformed w v l g) = absurd (omega arith)
+stopped-one (WriteStopped.late x u k) (WriteStopped.misfit w v l h g) = absurd (omega arith)
+stopped-one (WriteStopped.malformed x u k f) (WriteStopped.no-records g) = absurd (g x)
+stopped-one (WriteStopped.malformed x u k f) (WriteStopped.no-version w g) = absurd (g u)
+stopped-one (WriteStopped.malformed x u k f) (WriteStopped.late w v l) = absurd (omega arith)
+stopped-one (WriteStopped.malformed x u k f) (WriteStopped.malformed w v l g) = (refl, malformed-one f g)
+stopped-one (WriteStopped.malformed x u k f) (WriteStopped.misfit w v l h g) = absurd (none-malformed h f)
+stopped-one (WriteStopped.misfit x u k i f) (WriteStopped.no-records g) = absurd (g x)
+stopped-one (WriteStopped.misfit x u k i f) (WriteStopped.no-version w g) = absurd (g u)
+stopped-one (WriteStopped.misfit x u k i f) (WriteStopped.late w v l) = absurd (omega arith)
+stopped-one (WriteStopped.misfit x u k i f) (WriteStopped.malformed w v l g) = absurd (none-malformed i g)
+stopped-one (WriteStopped.misfit x u k i f) (WriteStopped.misfit w v l h g) = (refl, misfit-one (rw (packs-all-one i h) at f) g)
 
 -- They are 20 to 24.
-stopped-numbers : {version start n p : ℕ} {s : List ℕ} → Stopped version start s n p → (20 ≤ n) × (n ≤ 24)
-stopped-numbers (Stopped.no-records f) = (omega arith, omega arith)
-stopped-numbers (Stopped.no-version w f) = (omega arith, omega arith)
-stopped-numbers (Stopped.late w v l) = (omega arith, omega arith)
-stopped-numbers (Stopped.malformed w v l f) = (omega arith, omega arith)
-stopped-numbers (Stopped.misfit w v l h f) = (omega arith, omega arith)
+stopped-numbers : {version start n p : ℕ} {s : List ℕ} → WriteStopped version start s n p → (20 ≤ n) × (n ≤ 24)
+stopped-numbers (WriteStopped.no-records f) = (omega arith, omega arith)
+stopped-numbers (WriteStopped.no-version w f) = (omega arith, omega arith)
+stopped-numbers (WriteStopped.late w v l) = (omega arith, omega arith)
+stopped-numbers (WriteStopped.malformed w v l f) = (omega arith, omega arith)
+stopped-numbers (WriteStopped.misfit w v l h f) = (omega arith, omega arith)
 
 module _ {version start : ℕ} {rs : List Record} {s : List ℕ} (w : Writable (traceOf version start rs)) (e : s ≡ packed rs) where
-  held : Holds rs s
+  held : PacksAll rs s
   held = record { formed = w .formed; bytes = e }
 
   whole : Whole s
@@ -73,17 +73,17 @@ module _ {version start : ℕ} {rs : List Record} {s : List ℕ} (w : Writable (
       record { twenties = omega arith; few = omega (arith, w .few) }
 
   -- What can be written is none of them.
-  not-stopped : {n p : ℕ} → Stopped version start s n p → ⊥
-  not-stopped (Stopped.no-records f) = f whole
-  not-stopped (Stopped.no-version x f) = f (w .version)
-  not-stopped (Stopped.late x v l) = omega (arith, w .start)
-  not-stopped (Stopped.malformed x v l f) = none-malformed held f
-  not-stopped (Stopped.misfit x v l h f) =
-      f .misfit (each-at (f .before) (f .this) (f .after) (rw (holds-one held h ∙ f .whole) at (w .carried)))
+  not-stopped : {n p : ℕ} → WriteStopped version start s n p → ⊥
+  not-stopped (WriteStopped.no-records f) = f whole
+  not-stopped (WriteStopped.no-version x f) = f (w .version)
+  not-stopped (WriteStopped.late x v l) = omega (arith, w .start)
+  not-stopped (WriteStopped.malformed x v l f) = none-malformed held f
+  not-stopped (WriteStopped.misfit x v l h f) =
+      f .misfit (each-at (f .before) (f .this) (f .after) (rw (packs-all-one held h ∙ f .whole) at (w .carried)))
 
   -- The records are the only ones.
   same-records : {qs : List Record} → Writable (traceOf version start qs) → s ≡ packed qs → rs ≡ qs
-  same-records x d = holds-one held (record { formed = x .formed; bytes = d })
+  same-records x d = packs-all-one held (record { formed = x .formed; bytes = d })
 
 -- The promise leaves one answer and one output only.
 pub one-write : {version start : ℕ} {s before a b x y : List ℕ} → WritePromise version start s before a x
@@ -151,7 +151,7 @@ untouched {number = number} f (WritePromise.done w i l e q) = let z : number ≡
 -- 23 is tested over all records before 24: where some record is not well formed, the first such is the answer.
 pub malformed-first : {version start p : ℕ} {s before a x : List ℕ} → Whole s → Version version → start ≤ startLimit → FirstMalformed s p
     → WritePromise version start s before a x → a ≡ writeNumbers (answer.Refused 23 p)
-malformed-first w v l f q = one-write q (WritePromise.refused (Stopped.malformed w v l f) refl refl) .0
+malformed-first w v l f q = one-write q (WritePromise.refused (WriteStopped.malformed w v l f) refl refl) .0
 
 -- A writer that does nothing breaks the promise: the output that it leaves starts with the house spelling only if it did before.
 pub not-nothing : {version start m : ℕ} {s before : List ℕ} → WritePromise version start s before (writeNumbers (answer.Done m)) before

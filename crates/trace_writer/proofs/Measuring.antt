@@ -17,8 +17,8 @@ use Rattle.trace.specs.House.{rowsText, Carried}
 use Rattle.trace.proofs.HouseTexts.{rows-none}
 use Rattle.trace_writer.specs.declared.Size.the-variants as size
 use Rattle.trace_writer.specs.Promise.{FirstMisfit}
-use Rattle.trace_writer.specs.Passes.{ended, RowBytes, carried, misfit, MisfitAfter, Unfit, Measures}
-use Rattle.trace_writer.specs.Passes
+use Rattle.trace_writer.specs.inner.Passes.{withEnd, RowBytes, carried, misfit, MisfitAfter, Unfit, MeasuresRows}
+use Rattle.trace_writer.specs.inner.Passes
 use Rattle.trace_writer.proofs.Rows.{rows-snoc}
 
 -- The first row has number `first`, and `wrong` is the first misfit, or 0.
@@ -39,7 +39,7 @@ measuring version first s = record {
 module _ {version first : ℕ} {s : List ℕ} {at k bytes wrong : ℕ} (m : Measuring version first s at k bytes wrong) where
   -- One record more: carried or not.
   module _ {r : Record} {n new : ℕ} (h : at + 20 ≤ length s) (p : Packs r (take 20 (drop at s))) (a : MisfitAfter wrong (k + 1) n new) where
-    some : Carries r version → n ≡ length (ended (rowText version (first + k) r)) → n ≢ 0
+    some : Carries r version → n ≡ length (withEnd (rowText version (first + k) r)) → n ≢ 0
     some c e z = omega (arith, length-append (rowText version (first + k) r) (13 ∷ 10 ∷ []))
 
     fits-more : RowBytes version (first + k) r n → new ≡ 0
@@ -53,7 +53,7 @@ module _ {version first : ℕ} {s : List ℕ} {at k bytes wrong : ℕ} (m : Meas
         go (yes o) (carried c e) =
             let f = m .fits o in
             let l = rw (← (m .judged .counted)) at (ap length (rows-snoc version first (m .judged .records) r)) in
-            (each-snoc (f .0) c, omega (arith, f .1, e, l, length-append (rowsText version first (m .judged .records)) (ended (rowText version (first + k) r))))
+            (each-snoc (f .0) c, omega (arith, f .1, e, l, length-append (rowsText version first (m .judged .records)) (withEnd (rowText version (first + k) r))))
 
     unfit-more : RowBytes version (first + k) r n → new ≢ 0 → FirstMisfit version (m .judged .records ++ (r ∷ [])) new
     unfit-more b z = go (ℕ-discrete wrong 0) b
@@ -92,7 +92,7 @@ module _ {version first : ℕ} {s : List ℕ} {at k bytes wrong : ℕ} (m : Meas
           unfit = unfit-more x;
         }
 
-  pub measured : length s ≤ at → wrong ≡ 0 → Measures version first s (size.Bytes bytes)
+  pub measured : length s ≤ at → wrong ≡ 0 → MeasuresRows version first s (size.Bytes bytes)
   measured h z = let f = m .fits z in (m .judged .records, all-through (m .judged) h, f .0, f .1)
 
   pub misfit-found : length s ≤ at → wrong ≢ 0 → Unfit version s 24 wrong

@@ -4,7 +4,7 @@ use mathlib.Core.Path.{_≡_, refl, ap, _∙_}
 use mathlib.Core.List.{List, [], _∷_}
 use native.Mathlib.Omega.{arith}
 use lib.ListN.{length, take, drop, length-append}
-use Rattle.base.specs.Wrote.{Wrote}
+use Rattle.base.specs.inner.Wrote.{Wrote}
 use Rattle.base.proofs.Lists.{then}
 use Rattle.fields.specs.Columns.{lastNumber}
 use Rattle.record.specs.declared.Record.{Record}
@@ -15,7 +15,7 @@ use Rattle.row.specs.Versions.{Carries}
 use Rattle.row.specs.House.{rowText}
 use Rattle.trace.specs.House.{rowsText, Carried}
 use Rattle.trace.proofs.HouseTexts.{rows-none, rows-more}
-use Rattle.trace_writer.specs.Passes.{Fits, RowsPut}
+use Rattle.trace_writer.specs.inner.Passes.{RowsFit, RowsPut}
 use Rattle.trace_writer.proofs.Rows.{rows-snoc}
 
 -- The first row has number `first`, and k + 1 is that of the next.
@@ -28,9 +28,9 @@ pub record Putting (version first : ℕ) (s old out : List ℕ) (from at k p : �
   pub room : p + length (rowsText version (k + 1) (records .after)) ≤ length old
   pub same : length out ≡ length old
 
-pub putting : {version first from k : ℕ} {s old : List ℕ} → k + 1 ≡ first → Fits version first s old from → Putting version first s old old from 0 k from
+pub putting : {version first from k : ℕ} {s old : List ℕ} → k + 1 ≡ first → RowsFit version first s old from → Putting version first s old old from 0 k from
 putting q f = record {
-  records = ahead (f .holds);
+  records = ahead (f .packs);
   carried = f .carried;
   counted = omega arith;
   few = let a = f .few in omega arith;

@@ -5,7 +5,7 @@ use mathlib.Core.List.{List, [], _∷_, _++_}
 use lib.ListN.{length, drop}
 use Rattle.clock.specs.Start.{startLimit}
 use Rattle.record.specs.declared.Record.{Record}
-use Rattle.records.specs.Records.{packed, Whole, Holds, FirstMalformed}
+use Rattle.records.specs.Records.{packed, Whole, PacksAll, FirstMalformed}
 use Rattle.row.specs.Versions.{Version, Carries}
 use Rattle.trace.specs.Trace.{traceOf}
 use Rattle.trace.specs.House.{traceText, Carried, Writable}
@@ -28,18 +28,18 @@ pub record FirstMisfit (version : ℕ) (rs : List Record) (place : ℕ) : Type 0
   pub at : place ≡ length before + 1
 
 -- What is refused whatever the output, with which number at which place. In the table's order: each says that those before it do not hold.
-pub data Stopped (version start : ℕ) (s : List ℕ) : ℕ → ℕ → Type 0 where
-  no-records : (Whole s → ⊥) → Stopped version start s 20 0
-  no-version : Whole s → (Version version → ⊥) → Stopped version start s 21 0
-  late : Whole s → Version version → startLimit < start → Stopped version start s 22 0
-  malformed : {place : ℕ} → Whole s → Version version → start ≤ startLimit → FirstMalformed s place → Stopped version start s 23 place
-  misfit : {rs : List Record} {place : ℕ} → Whole s → Version version → start ≤ startLimit → Holds rs s → FirstMisfit version rs place
-      → Stopped version start s 24 place
+pub data WriteStopped (version start : ℕ) (s : List ℕ) : ℕ → ℕ → Type 0 where
+  no-records : (Whole s → ⊥) → WriteStopped version start s 20 0
+  no-version : Whole s → (Version version → ⊥) → WriteStopped version start s 21 0
+  late : Whole s → Version version → startLimit < start → WriteStopped version start s 22 0
+  malformed : {place : ℕ} → Whole s → Version version → start ≤ startLimit → FirstMalformed s place → WriteStopped version start s 23 place
+  misfit : {rs : List Record} {place : ℕ} → Whole s → Version version → start ≤ startLimit → PacksAll rs s → FirstMisfit version rs place
+      → WriteStopped version start s 24 place
 
 -- `write` of a version, a start and the bytes s, into an output that held `before` and then holds `after`, gives the numbers a.
 pub data WritePromise (version start : ℕ) (s before a after : List ℕ) : Type 0 where
   -- one of 20 to 24
-  refused : {n p : ℕ} → Stopped version start s n p → a ≡ writeNumbers (written.Refused n p) → after ≡ before
+  refused : {n p : ℕ} → WriteStopped version start s n p → a ≡ writeNumbers (written.Refused n p) → after ≡ before
       → WritePromise version start s before a after
   -- everything good, and the output too short
   no-room : {rs : List Record} → Writable (traceOf version start rs) → s ≡ packed rs

@@ -23,9 +23,9 @@ use row_writer::row_length;
 ghost use mathlib.Core.Path.{_≡_};
 ghost use Prim.Native.Nat.{_+_, _≤_};
 ghost use lib.ListN.{length};
-ghost use Rattle.base.specs.Decides.{Decides};
+ghost use Rattle.base.specs.inner.Decides.{Decides};
 ghost use Rattle.base.specs.Text.{cr, lf};
-ghost use Rattle.base.specs.Wrote.{Wrote};
+ghost use Rattle.base.specs.inner.Wrote.{Wrote};
 ghost use Rattle.clock.specs.Start.{startLimit};
 ghost use Rattle.fields.specs.Columns.{lastNumber};
 ghost use Rattle.record.specs.Record.{WellFormed};
@@ -33,7 +33,7 @@ ghost use Rattle.records.specs.Records.{Whole};
 ghost use Rattle.row.specs.Versions.{Version};
 ghost use Rattle.trace.specs.House.{versionLineText, startLineText};
 ghost use Rattle.trace_writer.specs.Promise.{writeNumbers, WritePromise};
-ghost use Rattle.trace_writer.specs.Passes.{ended, headText, RowBytes, MisfitAfter, Measures, Fits, RowsPut};
+ghost use Rattle.trace_writer.specs.inner.Passes.{withEnd, headText, RowBytes, MisfitAfter, MeasuresRows, RowsFit, RowsPut};
 
 // The answer of `write`.
 pub enum Written {
@@ -49,8 +49,8 @@ pub enum Size {
 
 // Line 1.
 fn put_version_line(out: &mut [u8], at: usize, version: u64) -> usize
-    requires { ⌜ Version version × (at + length (ended (versionLineText version)) ≤ length (now out)) ⌝ }
-    ensures { λ r. ⌜ Wrote (now (out .entry)) (now (out .exit)) at r (ended (versionLineText version)) ⌝ }
+    requires { ⌜ Version version × (at + length (withEnd (versionLineText version)) ≤ length (now out)) ⌝ }
+    ensures { λ r. ⌜ Wrote (now (out .entry)) (now (out .exit)) at r (withEnd (versionLineText version)) ⌝ }
 {
     let p = put_text(out, at, b";$FILEVERSION=");
     let q = put_decimal(out, p, version / 10);
@@ -61,8 +61,8 @@ fn put_version_line(out: &mut [u8], at: usize, version: u64) -> usize
 
 // Line 2.
 fn put_start_line(out: &mut [u8], at: usize, start: u64) -> usize
-    requires { ⌜ at + length (ended (startLineText start)) ≤ length (now out) ⌝ }
-    ensures { λ r. ⌜ Wrote (now (out .entry)) (now (out .exit)) at r (ended (startLineText start)) ⌝ }
+    requires { ⌜ at + length (withEnd (startLineText start)) ≤ length (now out) ⌝ }
+    ensures { λ r. ⌜ Wrote (now (out .entry)) (now (out .exit)) at r (withEnd (startLineText start)) ⌝ }
 {
     let p = put_text(out, at, b";$STARTTIME=");
     let q = put_decimal(out, p, start / DAY_MS);
@@ -107,9 +107,9 @@ fn misfit_after(misfit: u64, k: u64, n: usize) -> u64
 }
 
 // The first pass: every record is judged, and the rows are measured.
-fn measure(version: u64, records: &[u8]) -> Size
+fn measure_rows(version: u64, records: &[u8]) -> Size
     requires { ⌜ Whole (now records) ⌝ }
-    ensures { λ m. ⌜ Measures version 1 (now (records .entry)) m ⌝ }
+    ensures { λ m. ⌜ MeasuresRows version 1 (now (records .entry)) m ⌝ }
 {
     let mut at: usize = 0;
     let mut k: u64 = 0;
@@ -141,7 +141,7 @@ fn measure(version: u64, records: &[u8]) -> Size
 // The second pass: the rows are put behind `from`, where there is room. No record is judged any more. The digits of the row number over ten
 // are kept in `tens` from row to row, and those of the offset's whole seconds in `seconds`: `last` is their number.
 fn put_rows(version: u64, records: &[u8], out: &mut [u8], from: usize)
-    requires { ⌜ Fits version 1 (now records) (now out) from ⌝ }
+    requires { ⌜ RowsFit version 1 (now records) (now out) from ⌝ }
     ensures { λ _. ⌜ RowsPut version 1 (now (records .entry)) (now (out .entry)) (now (out .exit)) from ⌝ }
 {
     let mut at = 0;
@@ -171,7 +171,7 @@ fn put_trace(version: u64, start: u64, records: &[u8], out: &mut [u8]) -> Writte
     requires { ⌜ Whole (now records) × Version version × (start ≤ startLimit) ⌝ }
     ensures { λ w. ⌜ WritePromise version start (now (records .entry)) (now (out .entry)) (writeNumbers w) (now (out .exit)) ⌝ }
 {
-    let m = measure(version, records);
+    let m = measure_rows(version, records);
     match m {
         Size::Bytes(rows) => {
             let bytes = head_length(version, start) + rows;

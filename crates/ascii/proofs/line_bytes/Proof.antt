@@ -2,7 +2,7 @@
 use mathlib.Core.Path.{refl}
 use native.Mathlib.Omega.{arith}
 use borrow.Author.Needs.{needs}
-use Rattle.ascii.specs.Passes.{line, left}
+use Rattle.ascii.specs.inner.Passes.{line, left}
 use Rattle.ascii.proofs.Channels.{channel-most}
 use Rattle.ascii.proofs.Exporting.{is-left, is-line}
 use Rattle.ascii.proofs.line_bytes.Statement.{statement}

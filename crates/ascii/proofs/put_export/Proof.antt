@@ -1,7 +1,7 @@
 -- `ascii::put_export` meets its contract.
 use mathlib.Core.Path.{refl}
 use borrow.Author.Needs.{needs}
-use Rattle.ascii.specs.Passes.{line, left}
+use Rattle.ascii.specs.inner.Passes.{line, left}
 use Rattle.ascii.proofs.Exporting.{is-left, is-line}
 use Rattle.ascii.proofs.put_export.Statement.{statement}
 use Rattle.ascii.proofs.put_export.Tie as tie

@@ -6,7 +6,7 @@ use lib.ListN.{length}
 use Rattle.clock.proofs.Stamps.{some-stamp}
 use Rattle.records.proofs.Records.{packed-there}
 use Rattle.records.proofs.Ahead.{next-whole, next-place}
-use Rattle.ascii.specs.Passes.{Shows}
+use Rattle.ascii.specs.inner.Passes.{Shows}
 use Rattle.ascii.proofs.Keeping.{first-second, begins}
 use Rattle.ascii.proofs.Putting.{Putting, putting, next-room, put-more, lines-put}
 use Rattle.ascii.proofs.put_lines.Statement.{statement}
@@ -50,7 +50,7 @@ put-lines-spec =
     let a = c .before .before .before .before .before .before .before .before .before in
     let l = a .before .before .loop .inv .0 in
     let z = some-stamp (a .before .before .before .before .before .before .before .before .args .start) (a .packed-at .result .offset) in
-    let h = c .before .before .before .before .before .before .renew .ensures in
+    let h = c .before .before .before .before .before .before .renew-second .ensures in
     let t = begins (z .1) (c .before .before .before .before .before .before .before .before .ticks-of .ensures) h in
     (put-more l (a .before .loop-test .taken) (a .packed-at .ensures) (z .1) (c .before .before .put-export .ensures (z .0) t) (omega (arith, l .same)), h))
     (λ c. c .before .loop .inv .0 .same)

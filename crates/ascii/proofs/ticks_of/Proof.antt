@@ -1,7 +1,7 @@
 -- `ascii::ticks_of` meets its contract.
 use mathlib.Core.Path.{refl}
 use borrow.Author.Needs.{needs}
-use Rattle.ascii.specs.Passes.{ticksOf}
+use Rattle.ascii.specs.inner.Passes.{ticksOf}
 use Rattle.ascii.proofs.ticks_of.Statement.{statement}
 use Rattle.ascii.proofs.ticks_of.Tie as tie
 

@@ -17,4 +17,4 @@ put-line-spec =
     let q = c .before .before .before .before .before .before in
     let p = q .before .before .before .before in
     let a = p .before .before .before .before .args in
-    rw (line-cut s (a .channel) (a .r), ← (b .bytes), ← (b .rest)) (then (p .put-text .ensures) (then (q .put-padded .ensures .0) (c .before .before .put-frame .ensures)))))
+    rw (line-cut s (a .channel) (a .r), ← (b .bytes), ← (b .rest)) (then (p .put-text .ensures) (then (q .put-padded .ensures .0) (c .before .before .put-line-frame .ensures)))))

@@ -16,4 +16,4 @@ put-rest-spec =
     (λ c.
     let q = c .before .before .before .before .before .before in
     let p = q .before .before .before .before in
-    then (p .put-id .ensures) (then (q .put-data .ensures) (c .before .before .put-end .ensures))))
+    then (p .put-line-id .ensures) (then (q .put-line-data .ensures) (c .before .before .put-end .ensures))))

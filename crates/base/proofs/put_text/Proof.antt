@@ -4,7 +4,7 @@ use mathlib.Core.Path.{_≡_, refl}
 use borrow.Author.Needs.{needs}
 use lib.ListN.{length, take}
 use lib.Seq.{take-all}
-use Rattle.base.specs.Wrote.{Wrote}
+use Rattle.base.specs.inner.Wrote.{Wrote}
 use Rattle.base.proofs.Lists.{put-next}
 use Rattle.base.proofs.put_text.Statement.{statement}
 use Rattle.base.proofs.put_text.Tie as tie

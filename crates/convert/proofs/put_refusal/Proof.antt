@@ -5,10 +5,11 @@ use native.Mathlib.Nat.{zero-add}
 use native.Mathlib.Omega.{arith}
 use borrow.Author.Needs.{needs}
 use lib.ListN.{length}
+use Rattle.convert.specs.inner.Page.{put, no-room}
 use Rattle.digits.proofs.House.{word-few}
 use Rattle.base.proofs.Lists.{then, at-start}
 use Rattle.convert.specs.declared.Printed.the-variants.{Page}
-use Rattle.convert.specs.Promise.{refusalText, put, no-room}
+use Rattle.convert.specs.Promise.{refusalText}
 use Rattle.convert.proofs.Texts.{refusal, refusal-length}
 use Rattle.convert.proofs.put_refusal.Statement.{statement}
 use Rattle.convert.proofs.put_refusal.Tie as tie

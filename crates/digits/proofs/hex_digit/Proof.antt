@@ -3,7 +3,7 @@ use mathlib.Core.Path.{refl}
 use native.Mathlib.Omega.{arith}
 use borrow.Author.Needs.{needs}
 use Rattle.base.proofs.Tests.{shown-not, refuted-not}
-use Rattle.digits.specs.Answer.{digit, none}
+use Rattle.digits.specs.inner.Answer.{digit, none}
 use Rattle.digits.proofs.Strings.{hex}
 use Rattle.digits.proofs.hex_digit.Statement.{statement}
 use Rattle.digits.proofs.hex_digit.Tie as tie

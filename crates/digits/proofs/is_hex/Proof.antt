@@ -1,7 +1,7 @@
 -- `digits::is_hex` answers true for the bytes that are marked.
 use native.Mathlib.Omega.{arith}
 use borrow.Author.Needs.{needs}
-use Rattle.digits.proofs.Marks.{unmarked, marked}
+use Rattle.digits.proofs.ByteSets.{unmarked, marked}
 use Rattle.digits.proofs.Strings.{cases}
 use Rattle.digits.proofs.is_hex.Statement.{statement}
 use Rattle.digits.proofs.is_hex.Tie as tie

@@ -4,10 +4,11 @@ use mathlib.Core.Path.{_≡_}
 use native.Mathlib.Omega.{arith}
 use borrow.Author.Needs.{needs}
 use lib.ListN.{length}
+use Rattle.digits.specs.inner.Pairs.{PairsOf}
 use Rattle.base.specs.Spaced.{spaced}
-use Rattle.base.specs.Wrote.{Wrote}
+use Rattle.base.specs.inner.Wrote.{Wrote}
 use Rattle.digits.specs.declared.Letters.{Letters}
-use Rattle.digits.specs.House.{PairsOf, byteTexts}
+use Rattle.digits.specs.House.{byteTexts}
 use Rattle.digits.proofs.ByteTexts.{put-none, put-more}
 use Rattle.digits.proofs.put_pairs.Statement.{statement}
 use Rattle.digits.proofs.put_pairs.Tie as tie

@@ -1,7 +1,7 @@
 -- `fields::bus_field` refuses no bus: each test holds of any (`bus-shape`).
 use native.Mathlib.Omega.{arith}
 use borrow.Author.Needs.{needs}
-use Rattle.fields.specs.Window.{not}
+use Rattle.fields.specs.inner.Window.{not}
 use Rattle.base.proofs.Tests.{shown-not, refuted-not}
 use Rattle.fields.proofs.Window.{inside}
 use Rattle.fields.proofs.DigitFields.{bus-lead, bus-shape, bus-accept}

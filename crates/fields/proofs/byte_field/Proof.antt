@@ -8,14 +8,14 @@ use lib.ListN.{getD}
 use Rattle.base.proofs.Tests.{shown-not, refuted-not}
 use Rattle.digits.specs.Digits.{IsHex}
 use Rattle.digits.proofs.Strings.{hex}
-use Rattle.fields.specs.Window.{taken, not}
+use Rattle.fields.specs.inner.Window.{taken, not}
 use Rattle.fields.proofs.Scans.{hex-solid}
 use Rattle.fields.proofs.Window.{inside}
-use Rattle.fields.proofs.FixedFields.{Stands, first, then, here, ended, unended, digit-first, digit-then, two-digits}
+use Rattle.fields.proofs.FixedFields.{StandsAt, first, then, here, ended, unended, digit-first, digit-then, two-digits}
 use Rattle.fields.proofs.byte_field.Statement.{statement}
 use Rattle.fields.proofs.byte_field.Tie as tie
 
-one : (c : tie.Start) → let a = c .args in Stands (getD (a .w .now) (a .at) 0 ∷ []) (a .w .now) (a .at)
+one : (c : tie.Start) → let a = c .args in StandsAt (getD (a .w .now) (a .at) 0 ∷ []) (a .w .now) (a .at)
 one c = first (c .pre) refl
 
 hex-one : (c : tie.Else2) → let a = c .before .before .before .before .before .before .before .args in IsHex (getD (a .w .now) (a .at) 0)
@@ -27,7 +27,7 @@ hex-two : (c : tie.Else2) → let a = c .before .before .before .before .before 
 hex-two c = let x = c .before .is-hex2 in shown-not (x .result) (x .ensures) (c .if2 .left)
 
 two : (c : tie.Else2) → let a = c .before .before .before .before .before .before .before .args in
-    Stands (getD (a .w .now) (a .at) 0 ∷ getD (a .w .now) (a .at + 1) 0 ∷ []) (a .w .now) (a .at)
+    StandsAt (getD (a .w .now) (a .at) 0 ∷ getD (a .w .now) (a .at + 1) 0 ∷ []) (a .w .now) (a .at)
 two c = then (one (c .before .before .before .before .before .before .before)) (hex-solid _ (hex-two c)) refl
 
 pub byte-field-spec : {M : Type 1} → statement M

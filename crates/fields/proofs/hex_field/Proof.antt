@@ -1,7 +1,7 @@
 -- `fields::hex_field` refuses no hexadecimal number of at most eight digits: each test holds of any (`hex-shape`).
 use native.Mathlib.Omega.{arith}
 use borrow.Author.Needs.{needs}
-use Rattle.fields.specs.Window.{not}
+use Rattle.fields.specs.inner.Window.{not}
 use Rattle.base.proofs.Tests.{shown-not, refuted-not}
 use Rattle.fields.proofs.Window.{inside}
 use Rattle.fields.proofs.DigitFields.{hex-shape, hex-accept}

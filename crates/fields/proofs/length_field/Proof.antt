@@ -5,13 +5,13 @@ use mathlib.Core.List.{[], _∷_}
 use native.Mathlib.Omega.{arith}
 use borrow.Author.Needs.{needs}
 use lib.ListN.{length, getD}
-use Rattle.fields.specs.Window.{taken, not}
+use Rattle.fields.specs.inner.Window.{taken, not}
 use Rattle.fields.proofs.Window.{inside}
-use Rattle.fields.proofs.FixedFields.{Stands, first, here, ended, unended, length-byte}
+use Rattle.fields.proofs.FixedFields.{StandsAt, first, here, ended, unended, length-byte}
 use Rattle.fields.proofs.length_field.Statement.{statement}
 use Rattle.fields.proofs.length_field.Tie as tie
 
-one : (c : tie.Start) → let a = c .args in Stands (getD (a .w .now) (a .at) 0 ∷ []) (a .w .now) (a .at)
+one : (c : tie.Start) → let a = c .args in StandsAt (getD (a .w .now) (a .at) 0 ∷ []) (a .w .now) (a .at)
 one c = first (c .pre) refl
 
 pub length-field-spec : {M : Type 1} → statement M

@@ -2,7 +2,7 @@
 use Prim.Native.Nat.{_+_}
 use native.Mathlib.Omega.{arith}
 use borrow.Author.Needs.{needs}
-use Rattle.fields.specs.Window.{not}
+use Rattle.fields.specs.inner.Window.{not}
 use Rattle.base.proofs.Tests.{shown-not, refuted-not}
 use Rattle.fields.proofs.Window.{inside}
 use Rattle.fields.proofs.DigitFields.{goes-on, number-lead, number-shape, number-accept}
@@ -24,7 +24,7 @@ number-field-spec =
     (λ c. not (c .none3 .ensures) (λ f rest a v p. let h = number-shape (c .before .before .before .decimal .ensures) a p in omega arith))
     (λ c. inside _ _ (c .before .before .before .decimal .ensures .lined))
     (λ c κs. search needs)
-    (λ c. not (c .none4 .ensures) (λ f rest a v p. let h = number-shape (c .before .before .before .before .before .decimal .ensures) a p in c .before .if4 .taken (h .mark)))
+    (λ c. not (c .none4 .ensures) (λ f rest a v p. let h = number-shape (c .before .before .before .before .before .decimal .ensures) a p in c .before .if4 .taken (h .bracketed)))
     (λ c. let d = c .before .before .before .before .decimal in let s = c .before .before .before .before .before .before .before .before in omega (arith, inside (s .args .w .now) (d .result .end) (d .ensures .lined)))
     (λ c. let w = c .before .before .before .before .before .before .before .before .before .args .w .now in let d = c .before .before .before .before .before .decimal in
     inside w (d .result .end + 1) (goes-on w (d .result .end) 41 (d .ensures .lined) (c .before .if4 .left) (omega arith)))
@@ -37,6 +37,6 @@ number-field-spec =
     (record {
       some = let l = c .before .before .before .before .before .before .before .decimal .ensures .from in omega arith;
       few = omega arith;
-      mark = c .before .before .before .if4 .left;
+      bracketed = c .before .before .before .if4 .left;
       stop = shown-not (c .before .ends .result) (c .before .ends .ensures) (c .if5 .left);
     })))

@@ -4,21 +4,21 @@ use mathlib.Core.List.{[], _∷_}
 use native.Mathlib.Omega.{arith}
 use borrow.Author.Needs.{needs}
 use lib.ListN.{length}
-use Rattle.fields.specs.Window.{taken, not}
+use Rattle.fields.specs.inner.Window.{taken, not}
 use Rattle.fields.proofs.Window.{inside}
-use Rattle.fields.proofs.FixedFields.{Stands, first, then, here, ended, unended, not-first, not-then, solid-at}
+use Rattle.fields.proofs.FixedFields.{StandsAt, first, then, here, ended, unended, not-first, not-then, solid-at}
 use Rattle.fields.proofs.remote_field.Statement.{statement}
 use Rattle.fields.proofs.remote_field.Tie as tie
 
-one : (c : tie.Else1) → let a = c .before .before .before .args in Stands (82 ∷ []) (a .w .now) (a .at)
+one : (c : tie.Else1) → let a = c .before .before .before .args in StandsAt (82 ∷ []) (a .w .now) (a .at)
 one c = first (c .before .before .before .pre) (c .if1 .left)
 
 two : (c : tie.Else2) → let a = c .before .before .before .before .before .args in
-    Stands (82 ∷ 84 ∷ []) (a .w .now) (a .at)
+    StandsAt (82 ∷ 84 ∷ []) (a .w .now) (a .at)
 two c = then (one (c .before .before)) (solid-at 84 (omega arith)) (c .if2 .left)
 
 three : (c : tie.Else3) → let a = c .before .before .before .before .before .before .before .args in
-    Stands (82 ∷ 84 ∷ 82 ∷ []) (a .w .now) (a .at)
+    StandsAt (82 ∷ 84 ∷ 82 ∷ []) (a .w .now) (a .at)
 three c = then (two (c .before .before)) (solid-at 82 (omega arith)) (c .if3 .left)
 
 pub remote-field-spec : {M : Type 1} → statement M

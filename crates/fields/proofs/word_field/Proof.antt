@@ -3,7 +3,7 @@ use Prim.Native.Nat.{_-_}
 use native.Mathlib.Omega.{arith}
 use borrow.Author.Needs.{needs}
 use lib.ListN.{length, getD}
-use Rattle.fields.specs.Window.{Solid, taken, not}
+use Rattle.fields.specs.inner.Window.{Solid, taken, not}
 use Rattle.base.proofs.Tests.{shown-not}
 use Rattle.fields.proofs.FixedFields.{is-solid, Capitals, no-capitals, behind, more-capitals, no-word, a-word, word-end}
 use Rattle.fields.proofs.word_field.Statement.{statement}

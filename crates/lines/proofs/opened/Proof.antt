@@ -2,7 +2,7 @@
 use mathlib.Core.Path.{refl}
 use native.Mathlib.Omega.{arith}
 use borrow.Author.Needs.{needs}
-use Rattle.lines.specs.Parts.{opened, none}
+use Rattle.lines.specs.inner.Parts.{opened, none}
 use Rattle.lines.proofs.Scans.{blanks-ran, opens, first-byte}
 use Rattle.lines.proofs.opened.Statement.{statement}
 use Rattle.lines.proofs.opened.Tie as tie

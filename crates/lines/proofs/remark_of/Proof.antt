@@ -3,7 +3,7 @@ use Prim.Native.Nat.{_<_}
 use native.Mathlib.Omega.{arith}
 use borrow.Author.Needs.{needs}
 use lib.ListN.{length}
-use Rattle.lines.specs.Parts.{Opened}
+use Rattle.lines.specs.inner.Parts.{Opened}
 use Rattle.lines.proofs.Scans.{is-opened}
 use Rattle.lines.proofs.Lines.{no-remark, comment-over, comment-other, dollar-line}
 use Rattle.lines.proofs.remark_of.Statement.{statement}

@@ -2,7 +2,7 @@
 use Prim.Native.Nat.{_-_}
 use native.Mathlib.Omega.{arith}
 use lib.ListN.{length}
-use Rattle.lines.specs.Parts.{Between}
+use Rattle.lines.specs.inner.Parts.{Between}
 use Rattle.lines.proofs.Scans.{Passed, none-passed, one-passed, stopped, all-passed}
 use Rattle.lines.proofs.run_end.Statement.{statement}
 use Rattle.lines.proofs.run_end.Tie as tie

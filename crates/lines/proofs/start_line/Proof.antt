@@ -6,7 +6,7 @@ use borrow.Author.Needs.{needs}
 use lib.ListN.{length, getD}
 use Rattle.base.proofs.Tests.{shown-not, refuted-not}
 use Rattle.lines.specs.Lines.{startText, StartLine}
-use Rattle.lines.specs.Parts.{Opened, Stands}
+use Rattle.lines.specs.inner.Parts.{Opened, StandsAt}
 use Rattle.lines.proofs.Scans.{blanks-ran, digits-ran, room, is-opened, not-opened, part, to-end, not-end}
 use Rattle.lines.proofs.Lines.{start-stands, start-point, start-blanks, start-answer}
 use Rattle.lines.proofs.start_line.Statement.{statement}
@@ -17,7 +17,7 @@ place : (c : tie.Else1) → Opened (c .before .before .before .args .line .now) 
 place c = is-opened (c .before .opened .ensures) (c .if1 .left)
 
 -- `$STARTTIME=` stands there
-text : (c : tie.Else2) → let o = c .before .before .before .before in Stands startText (o .before .before .args .line .now) (o .opened .result)
+text : (c : tie.Else2) → let o = c .before .before .before .before in StandsAt startText (o .before .before .args .line .now) (o .opened .result)
 text c = shown-not (c .before .stands .result) (c .before .stands .ensures) (c .if2 .left)
 
 wide : (c : tie.Else2) → let o = c .before .before .before .before in o .opened .result + 11 ≤ length (o .before .before .args .line .now)

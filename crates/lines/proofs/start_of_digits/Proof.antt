@@ -1,7 +1,7 @@
 -- `lines::start_of_digits` refuses no digits that give a start: each test holds of any.
 use native.Mathlib.Omega.{arith}
 use borrow.Author.Needs.{needs}
-use Rattle.digits.specs.Answer.{ReadDecimal, ReadPadded}
+use Rattle.digits.specs.inner.Answer.{ReadDecimal, ReadPadded}
 use Rattle.digits.proofs.Theorems.{padded-below}
 use Rattle.lines.proofs.Lines.{few-days, digits-one}
 use Rattle.lines.proofs.start_of_digits.Statement.{statement}

@@ -5,9 +5,9 @@ use native.Mathlib.Omega.{arith}
 use borrow.Author.Needs.{needs}
 use lib.ListN.{length}
 use Rattle.base.proofs.Tests.{shown-not, refuted-not}
-use Rattle.lines.specs.Answer.{none}
+use Rattle.lines.specs.inner.Answer.{none}
 use Rattle.lines.specs.Lines.{VersionLine}
-use Rattle.lines.specs.Parts.{Opened, Stands}
+use Rattle.lines.specs.inner.Parts.{Opened, StandsAt}
 use Rattle.lines.proofs.Scans.{blanks-ran, room, is-opened, not-opened, to-end, not-end}
 use Rattle.lines.proofs.Lines.{fileText, VersionEnd, version-stands, version-end, version-answer}
 use Rattle.lines.proofs.version_line.Statement.{statement}
@@ -18,7 +18,7 @@ place : (c : tie.Else1) → Opened (c .before .before .before .args .line .now) 
 place c = is-opened (c .before .opened .ensures) (c .if1 .left)
 
 -- `$FILEVERSION=` stands there, and what any version line has behind it
-text : (c : tie.Else2) → let o = c .before .before .before .before in Stands fileText (o .before .before .args .line .now) (o .opened .result)
+text : (c : tie.Else2) → let o = c .before .before .before .before in StandsAt fileText (o .before .before .args .line .now) (o .opened .result)
 text c = shown-not (c .before .stands .result) (c .before .stands .ensures) (c .if2 .left)
 
 wide : (c : tie.Else2) → let o = c .before .before .before .before in o .opened .result + 13 ≤ length (o .before .before .args .line .now)

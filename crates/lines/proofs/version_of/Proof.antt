@@ -4,7 +4,7 @@ use mathlib.Core.Path.{_≡_, refl}
 use native.Mathlib.Omega.{arith}
 use borrow.Author.Needs.{needs}
 use Rattle.base.proofs.Tests.{shown, refuted}
-use Rattle.lines.specs.Parts.{figures, no-figures}
+use Rattle.lines.specs.inner.Parts.{figures, no-figures}
 use Rattle.lines.proofs.version_of.Statement.{statement}
 use Rattle.lines.proofs.version_of.Tie as tie
 

@@ -26,5 +26,5 @@ put-frame-spec =
     let p = q .before .before .before .before in
     let e = frame-cut (p .before .before .before .args .r) in
     rw e
-    (then (p .put-mark .ensures)
+    (then (p .put-type .ensures)
     (then (q .put-id .ensures) (then (s .put-byte .ensures) (then (t .put-byte2 .ensures) (c .before .before .put-data .ensures)))))))

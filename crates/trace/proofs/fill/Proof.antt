@@ -3,7 +3,7 @@ use Prim.Native.Nat.{_-_, _≤_}
 use native.Mathlib.Omega.{arith}
 use borrow.Author.Needs.{needs}
 use lib.ListN.{length}
-use Rattle.trace.specs.Passes.{Windowed}
+use Rattle.trace.specs.inner.Passes.{Windowed}
 use Rattle.trace.proofs.Filling.{Filling, filling, out-length, stored-note, row-next, row-room, stored-row, never-bad, filled}
 use Rattle.trace.proofs.Rows.{was-found, not-found}
 use Rattle.trace.proofs.fill.Statement.{statement}
@@ -61,6 +61,6 @@ fill-spec =
     let f = was-found (c .before .before .before .before .before .before .before .before .row-at .ensures) (c .before .before .before .before .before .before .before .if2 .left) in
     let w = c .before .before .before .before .before .before .before .before .before .before .before .window-at .ensures in
     let a = f .there .later in
-    (stored-row (c .before .before .before .before .before .before .before .before .before .before .before .before .before .before .before .before .loop .inv .0) _ (f .line) _ (omega arith) (f .there) (f .row) (rw (c .before .before .before .before .of-fields .ensures) at (c .before .before .before .put-record .ensures)) (c .back-after .ensures), w .holds, omega (arith, w .starts)))
+    (stored-row (c .before .before .before .before .before .before .before .before .before .before .before .before .before .before .before .before .loop .inv .0) _ (f .line) _ (omega arith) (f .there) (f .row) (rw (c .before .before .before .before .of-fields .ensures) at (c .before .before .before .put-record .ensures)) (c .back-after .ensures), w .windowed, omega (arith, w .starts)))
     (λ c. out-length (c .before .loop .inv .0))
     (λ c. filled (c .before .loop .inv .0) (c .loop-test .left)))

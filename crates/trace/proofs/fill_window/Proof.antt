@@ -5,7 +5,7 @@ use native.Mathlib.Omega.{arith}
 use borrow.Author.Needs.{needs}
 use lib.ListN.{length, drop, length-drop}
 use lib.Seq.{length-take-le}
-use Rattle.trace.specs.Passes.{mostHeld}
+use Rattle.trace.specs.inner.Passes.{mostHeld}
 use Rattle.trace.proofs.fill_window.Statement.{statement}
 use Rattle.trace.proofs.fill_window.Tie as tie
 

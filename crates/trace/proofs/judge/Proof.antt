@@ -3,7 +3,7 @@ use Prim.Native.Nat.{_-_, _≤_}
 use native.Mathlib.Omega.{arith}
 use borrow.Author.Needs.{needs}
 use lib.ListN.{length}
-use Rattle.trace.specs.Passes.{Windowed}
+use Rattle.trace.specs.inner.Passes.{Windowed}
 use Rattle.trace.proofs.Judging.{Judging, judging, noted, counted-row, refused-line, finished}
 use Rattle.trace.proofs.Rows.{was-found, not-found}
 use Rattle.trace.proofs.judge.Statement.{statement}
@@ -36,7 +36,7 @@ judge-spec =
     let w = c .before .before .before .before .before .before .before .before .window-at .ensures in
     let a = s .1 .later in
     let b = w .starts in
-    (noted (c .before .before .before .before .before .before .before .before .before .before .before .loop .inv .0) (s .0) (s .1) (s .2), w .holds, omega arith))
+    (noted (c .before .before .before .before .before .before .before .before .before .before .before .loop .inv .0) (s .0) (s .1) (s .2), w .windowed, omega arith))
     (λ c. search needs)
     (λ c. refused-line (c .before .before .before .before .before .before .before .before .before .before .before .loop .inv .0) (omega arith) (c .before .before .before .before .before .before .before .before .before .before .before .before .before .before .before .before .before .pre .1) (c .before .before .before .before .before .before .before .before .before .before .loop-test .taken) (not-found (c .before .before .before .before .before .row-at .ensures) (c .before .before .before .before .if1 .taken)) (rw (c .before .l2 .given .1) at (c .before .before .before .other-at .ensures)))
     (λ c. let j = c .before .before .before .before .before .before .before .loop .inv .0 .few in omega (arith, c .before .before .before .before .before .before .loop-test .taken))
@@ -46,5 +46,5 @@ judge-spec =
     let w = c .before .before .before .before .window-at .ensures in
     let a = f .there .later in
     let b = w .starts in
-    (counted-row (c .before .before .before .before .before .before .before .loop .inv .0) _ (f .line) (omega arith) (f .there) (f .row), w .holds, omega arith))
+    (counted-row (c .before .before .before .before .before .before .before .loop .inv .0) _ (f .line) (omega arith) (f .there) (f .row), w .windowed, omega arith))
     (λ c. finished (c .before .loop .inv .0) (c .loop-test .left)))

@@ -5,7 +5,7 @@ use borrow.Author.Needs.{needs}
 use lib.ListN.{length, drop}
 use lib.Seq.{slice, length-slice}
 use Rattle.lines.specs.Lines.{FirstLine}
-use Rattle.trace.specs.Passes.{unended, long, dollar, other}
+use Rattle.trace.specs.inner.Passes.{unended, long, dollar, other}
 use Rattle.trace.proofs.Pieces.{part-slice, line-there}
 use Rattle.trace.proofs.other_at.Statement.{statement}
 use Rattle.trace.proofs.other_at.Tie as tie

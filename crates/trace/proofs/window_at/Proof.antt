@@ -11,6 +11,6 @@ window-at-spec =
     (λ c. omega arith)
     (λ c. omega arith)
     (λ c. omega arith)
-    (λ c. record { holds = c .before .before .pre .0; starts = c .before .before .pre .1; room = omega arith })
+    (λ c. record { windowed = c .before .before .pre .0; starts = c .before .before .pre .1; room = omega arith })
     (λ c κs. search needs)
-    (λ c. record { holds = c .fill-window .ensures; starts = omega arith; room = omega arith }))
+    (λ c. record { windowed = c .fill-window .ensures; starts = omega arith; room = omega arith }))

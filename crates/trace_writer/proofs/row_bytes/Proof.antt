@@ -7,7 +7,7 @@ use Rattle.base.proofs.Tests.{shown-not, refuted-not}
 use lib.ListN.{length-append}
 use Rattle.row.specs.House.{rowText}
 use Rattle.row.proofs.Spelled.{row-size}
-use Rattle.trace_writer.specs.Passes.{carried, misfit}
+use Rattle.trace_writer.specs.inner.Passes.{carried, misfit}
 use Rattle.trace_writer.proofs.row_bytes.Statement.{statement}
 use Rattle.trace_writer.proofs.row_bytes.Tie as tie
 

@@ -1,7 +1,7 @@
 -- `cases::time::start` meets what `start_of` requires: the digits of a fraction are below the power of ten of their width.
 use native.Mathlib.Omega.{arith}
 use borrow.Author.Needs.{needs}
-use Rattle.digits.specs.Answer.{ReadPadded}
+use Rattle.digits.specs.inner.Answer.{ReadPadded}
 use Rattle.digits.proofs.Theorems.{padded-below}
 use Rattle.cases.proofs.time.start.Statement.{statement}
 use Rattle.cases.proofs.time.start.Tie as tie

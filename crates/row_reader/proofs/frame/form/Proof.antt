@@ -1,7 +1,7 @@
 -- `row_reader::frame::form` tells the two forms of an ID by their widths.
 use mathlib.Core.Path.{refl}
 use native.Mathlib.Omega.{arith}
-use Rattle.row_reader.specs.Chain.{standard, long, neither}
+use Rattle.row_reader.specs.inner.Chain.{standard, long, neither}
 use Rattle.row_reader.proofs.frame.form.Statement.{statement}
 use Rattle.row_reader.proofs.frame.form.Tie as tie
 

@@ -28,4 +28,4 @@ field-offset-spec =
     (λ c. let s = c .before .before .before .before .before .before .before .before .before in link (offset-bus-on (s .pre .1) (c .before .before .before .before .before .before .before .before .fraction-digits .ensures) (c .before .before .before .before .before .before .before .offset-field .ensures) (c .before .before .before .before .before .before .if1 .left) (bus (c .before .before)) (c .before .before .before .before .put .ensures)) (c .before .before .before .before .before .before .if1 .left) (c .gap-bus .ensures))
     (λ c κs. search needs)
     (λ c κs. let s = c .before .before .before .before .before .before .before .before .before .before in next (offset-on (s .pre .1) (c .before .before .before .before .before .before .before .before .before .fraction-digits .ensures) (c .before .before .before .before .before .before .before .before .offset-field .ensures) (c .before .before .before .before .before .before .before .if1 .left) (no-bus (c .before .before .before)) (c .before .before .before .before .before .put .ensures) (c .before .put2 .ensures)) (c .before .before .before .before .before .before .before .if1 .left) (s .pre .0))
-    (λ c. let s = c .before .before .before .before .before .before .before .before .before .before .before in link (offset-on (s .pre .1) (c .before .before .before .before .before .before .before .before .before .before .fraction-digits .ensures) (c .before .before .before .before .before .before .before .before .before .offset-field .ensures) (c .before .before .before .before .before .before .before .before .if1 .left) (no-bus (c .before .before .before .before)) (c .before .before .before .before .before .before .put .ensures) (c .before .before .put2 .ensures)) (c .before .before .before .before .before .before .before .before .if1 .left) (c .gap-mark .ensures)))
+    (λ c. let s = c .before .before .before .before .before .before .before .before .before .before .before in link (offset-on (s .pre .1) (c .before .before .before .before .before .before .before .before .before .before .fraction-digits .ensures) (c .before .before .before .before .before .before .before .before .before .offset-field .ensures) (c .before .before .before .before .before .before .before .before .if1 .left) (no-bus (c .before .before .before .before)) (c .before .before .before .before .before .before .put .ensures) (c .before .before .put2 .ensures)) (c .before .before .before .before .before .before .before .before .if1 .left) (c .gap-type .ensures)))

@@ -2,7 +2,7 @@
 use borrow.Author.Needs.{needs}
 use mathlib.Core.Path.{refl}
 use native.Mathlib.Omega.{arith}
-use Rattle.row_reader.specs.Chain.{all-read, some-left}
+use Rattle.row_reader.specs.inner.Chain.{all-read, some-left}
 use Rattle.row_reader.proofs.Seven.{ending}
 use Rattle.row_reader.proofs.slots.finish.Statement.{statement}
 use Rattle.row_reader.proofs.slots.finish.Tie as tie
