@@ -10,7 +10,7 @@ use Rattle.records.specs.Records.{PacksAll}
 use Rattle.records.proofs.Records.{packs-all-one, malformed-one, none-malformed}
 use Rattle.ascii.specs.declared.Exported.{Exported}
 use Rattle.ascii.specs.declared.Exported.the-variants as exported
-use Rattle.ascii.specs.Promise.{exportNumbers, Numbered, is-done, is-refused, lineCount, leftCount, ExportStopped, no-records, late, malformed, Given, ExportPromise, refused, no-room, done}
+use Rattle.ascii.specs.Promise.{exportNumbers, Numbered, is-refused, lineCount, leftCount, ExportStopped, no-records, late, malformed, Given, ExportPromise, refused, no-room, done}
 use Rattle.ascii.proofs.Exporting.{exports-one}
 
 -- Refusals 20, 22 and 23 have one number at one place.

@@ -9,7 +9,8 @@ use lib.ListN.{length, take, drop, set}
 use lib.Seq.{sets, set-comm, take-at}
 use Rattle.base.specs.inner.Wrote.{Wrote}
 use Rattle.base.proofs.Lists.{at-start}
-use Rattle.digits.specs.House.{fixed, decimalText, Kept}
+use Rattle.digits.specs.House.{fixed, decimalText}
+use Rattle.digits.specs.inner.Kept.{Kept}
 use Rattle.digits.proofs.House.{fixed-zero, fixed-step, length-fixed, word-few}
 
 -- a byte before those that are put may be put first

@@ -1,11 +1,9 @@
 -- The spelling that is written: the house's one text for a number.
-use Prim.Native.Nat.{ℕ, zero, suc, _+_, _-_, _/_, _%_, _≤_}
+use Prim.Native.Nat.{ℕ, zero, suc, _+_, _-_, _/_, _%_}
 use Prim.Native.Char.{code}
-use mathlib.Core.Path.{_≡_}
 use mathlib.Core.Bool.{true, false}
 use mathlib.Core.List.{List, [], _∷_, _++_}
 use lib.Dec.{ltb}
-use lib.ListN.{take}
 use Rattle.digits.specs.declared.Letters.{Letters}
 use Rattle.digits.specs.declared.Letters.the-variants.{Capital, Small}
 
@@ -48,8 +46,3 @@ spell (suc k) n = elim (ltb n 10) [ true ↦ figureOf n ∷ [] | false ↦ spell
 -- n in decimal without leading zeros, whatever its length: n is never less than its number of digits less one.
 unfoldable pub decimalText : ℕ → List ℕ
 decimalText n = spell n n
-
--- An array of twenty bytes starts with so many digits, those of n.
-pub record Kept (n : ℕ) (kept : List ℕ) (digits : ℕ) : Type 0 where
-  pub text : take digits kept ≡ decimalText n
-  pub few : digits ≤ 20

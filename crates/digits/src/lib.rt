@@ -5,7 +5,7 @@ use base::wide;
 ghost use mathlib.Core.Path.{_≡_};
 ghost use mathlib.Core.List.{_∷_};
 ghost use Prim.Native.Nat.{_+_, _*_, _^_, _≤_, _<_};
-ghost use lib.ListN.{length, take};
+ghost use lib.ListN.{length};
 ghost use Rattle.digits.specs.inner.Pairs.{PairsOf};
 ghost use Rattle.base.specs.inner.Decides.{Decides};
 ghost use Rattle.base.specs.Spaced.{spaced};
@@ -14,7 +14,8 @@ ghost use Rattle.base.specs.inner.Wrote.{Wrote};
 ghost use Rattle.digits.specs.declared.Letters.{Letters};
 ghost use Rattle.digits.specs.inner.Answer.{Answers, DigitOr255, ReadDecimal, ReadPadded, ReadHex};
 ghost use Rattle.digits.specs.Digits.{HexDigit, IsHex};
-ghost use Rattle.digits.specs.House.{glyphOf, paddedText, hexText, decimalText, Kept, byteTexts};
+ghost use Rattle.digits.specs.House.{glyphOf, paddedText, hexText, decimalText, byteTexts};
+ghost use Rattle.digits.specs.inner.Kept.{Kept};
 
 pub enum Number {
     Value(u64),

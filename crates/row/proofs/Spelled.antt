@@ -173,7 +173,3 @@ row-spelled {v} {k} {r} w c l h =
 -- It has at most 64 bytes: `999999) 99999999999.999 16 Rx 1FFFFFFF 8`, and eight bytes.
 pub row-size : {v k : ℕ} {r : Record} → WellFormed r → Carries r v → k ≤ lastNumber → length (rowText v k r) ≤ 64
 row-size {v} {k} {r} w c h = let s = joined-short (rw row-texts at (row-sized {k = k} w c h)) in rw row-texts (omega arith)
-
--- So it is within the 250 bytes of a line.
-pub row-short : {v k : ℕ} {r : Record} → WellFormed r → Carries r v → 1 ≤ k → k ≤ lastNumber → length (rowText v k r) ≤ 250
-row-short w c l h = let s = row-size w c h in omega arith

@@ -20,7 +20,7 @@ ghost use Rattle.base.specs.Spaced.{spaced, joined};
 ghost use Rattle.base.specs.Text.{blank};
 ghost use Rattle.base.specs.inner.Wrote.{Wrote};
 ghost use Rattle.digits.specs.declared.Letters.the-variants.{Capital};
-ghost use Rattle.digits.specs.House.{Kept};
+ghost use Rattle.digits.specs.inner.Kept.{Kept};
 ghost use Rattle.fields.specs.Columns.{lastNumber};
 ghost use Rattle.record.specs.Record.{WellFormed};
 ghost use Rattle.row.specs.House.{numberText, offsetText, busTexts, typeText, idText, dataTexts, frameTexts, rowText};

@@ -1,7 +1,7 @@
 -- Wrong answers of `read`, `write` and `export`: each is refuted over its promise.
 use Prim.Native.Nat.{ℕ, suc, _≤_}
 use mathlib.Core.Path.{_≡_, refl, ap}
-use mathlib.Core.Logic.{_≢_, inr, ⊎-elim}
+use mathlib.Core.Logic.{_≢_}
 use mathlib.Core.List.{List, [], _∷_, _++_}
 use native.Mathlib.Omega.{arith}
 use lib.ListN.{length}
@@ -13,7 +13,7 @@ use Rattle.records.specs.StepBack.{backFrom, stepBack}
 use Rattle.records.proofs.Records.{packs-all-one}
 use Rattle.fields.specs.Runs.{empty}
 use Rattle.row.specs.Row.{Row}
-use Rattle.row.specs.Versions.{is11, is12, versionText, Carries, v12}
+use Rattle.row.specs.Versions.{is11, is12, versionText}
 use Rattle.row.proofs.Plain.{row-some}
 use Rattle.lines.proofs.Theorems.{version-line-text, version-line-inside, startLine, start-line-text, start-line-inside}
 use Rattle.trace.specs.Trace.{Trace, Spells, over, traceOf}

@@ -4,14 +4,14 @@ use mathlib.Core.Path.{_≡_, refl}
 use mathlib.Core.Logic.{_≢_}
 use mathlib.Core.List.{List, [], _∷_, _++_}
 use native.Mathlib.Omega.{arith}
-use lib.ListN.{length, getD}
+use lib.ListN.{length}
 use Rattle.fields.specs.Runs.{All, more, Stops, halt, empty}
-use Rattle.fields.specs.Columns.{IdField, standard, long, Capital, remoteText, NumberField, OffsetField, BusField, LengthField}
+use Rattle.fields.specs.Columns.{IdField, standard, long, Capital, remoteText}
 use Rattle.fields.specs.inner.Window.{Solid, FieldAt}
 use Rattle.record.specs.declared.Record.{Record}
 use Rattle.row.specs.Versions.{Version, is11, versionText, Carries, v11}
 use Rattle.row.specs.Row
-use Rattle.lines.specs.Lines.{VersionLine, Blanks, StartLine}
+use Rattle.lines.specs.Lines.{VersionLine, Blanks}
 
 -- fields
 

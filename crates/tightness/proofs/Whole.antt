@@ -8,7 +8,7 @@ use Rattle.digits.specs.House.{spell, fixed, decimalText}
 use Rattle.digits.proofs.House.{decimal-spells}
 use Rattle.digits.proofs.Theorems.{one-decimal}
 use Rattle.fields.specs.Runs.{halt}
-use Rattle.fields.specs.Columns.{NumberField, OffsetField, BusField, LengthField}
+use Rattle.fields.specs.Columns.{NumberField, BusField}
 use Rattle.fields.proofs.Runs.{cut}
 use Rattle.fields.proofs.Scans.{digits-all}
 use Rattle.record.specs.declared.Record.{Record}

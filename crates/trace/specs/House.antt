@@ -2,8 +2,8 @@
 use Prim.Native.Nat.{ℕ, _+_, _*_, _/_, _%_, _^_, _≤_}
 use mathlib.Core.List.{List, [], _∷_, _++_}
 use lib.ListN.{length}
-use Rattle.base.specs.Text.{text, semicolon, point, cr, lf}
-use Rattle.digits.specs.House.{figureOf, decimalText, paddedText}
+use Rattle.base.specs.Text.{semicolon, point, cr, lf}
+use Rattle.digits.specs.House.{decimalText, paddedText}
 use Rattle.clock.specs.Start.{dayMs, startLimit}
 use Rattle.fields.specs.Columns.{lastNumber}
 use Rattle.record.specs.declared.Record.{Record}

@@ -23,8 +23,6 @@ use row_writer::row_length;
 ghost use mathlib.Core.Path.{_≡_};
 ghost use Prim.Native.Nat.{_+_, _≤_};
 ghost use lib.ListN.{length};
-ghost use Rattle.base.specs.inner.Decides.{Decides};
-ghost use Rattle.base.specs.Text.{cr, lf};
 ghost use Rattle.base.specs.inner.Wrote.{Wrote};
 ghost use Rattle.clock.specs.Start.{startLimit};
 ghost use Rattle.fields.specs.Columns.{lastNumber};

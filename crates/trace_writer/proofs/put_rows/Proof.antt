@@ -4,7 +4,7 @@ use Prim.Native.Nat.{_+_, _-_, _/_, _≤_}
 use mathlib.Core.Path.{_≡_, refl}
 use native.Mathlib.Omega.{arith}
 use lib.ListN.{length}
-use Rattle.digits.specs.House.{Kept}
+use Rattle.digits.specs.inner.Kept.{Kept}
 use Rattle.digits.proofs.House.{length-one}
 use Rattle.digits.proofs.Writers.{kept-first}
 use Rattle.records.proofs.Records.{packed-there}
