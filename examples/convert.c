@@ -1,90 +1,105 @@
-/* Prints what a trace file holds, and its export: convert FILE. All lines end with CR LF, as those of the export do. */
+/* Prints what a trace file holds, and its export: convert FILE. All lines end with CR LF, as those of the export do. A pipe will do as well.
+ * Ends with 0 if the trace was exported, 1 if it was refused, and 2 if it could not be done. */
 #include "bushingowl.h"
 
+#include <errno.h>
 #include <inttypes.h>
+#include <signal.h>
 #include <stdio.h>
 #include <stdlib.h>
-
-/* The bytes of a packed record, the fewest of a row with its line end, and the most of an exported line. */
-enum { RECORD = 20, LEAST_ROW = 18, MOST_LINE = 86 };
+#include <string.h>
 
 /* Memory for so many bytes; never null, not even for none. */
 static uint8_t *room(size_t bytes)
 {
     uint8_t *memory = malloc(bytes + 1);
     if (memory == NULL) {
-        fputs("no memory\n", stderr);
+        fputs("convert: no memory\n", stderr);
         exit(2);
     }
     return memory;
 }
 
-/* The whole file, or null. */
-static uint8_t *whole_file(const char *name, size_t *len)
+/* The bytes of a file. Of one above the limit one byte more is read than a text may have, so that it is refused as such. */
+static uint8_t *contents(const char *name, size_t *len)
 {
+    const size_t most = (size_t)BUSHINGOWL_MOST_TEXT + 1;
+    uint8_t *text = room(most);
     FILE *file = fopen(name, "rb");
-    if (file == NULL)
-        return NULL;
-    uint8_t *text = NULL;
-    long size = fseek(file, 0, SEEK_END) == 0 ? ftell(file) : -1;
-    if (size >= 0 && fseek(file, 0, SEEK_SET) == 0) {
-        text = room((size_t)size);
-        *len = fread(text, 1, (size_t)size, file);
-        if (ferror(file)) {
-            free(text);
-            text = NULL;
-        }
+    if (file != NULL)
+        *len = fread(text, 1, most, file);
+    if (file == NULL || ferror(file)) {
+        fprintf(stderr, "convert: can't read %s: %s\n", name, strerror(errno));
+        exit(2);
     }
     fclose(file);
     return text;
 }
 
-/* What is printed for a good trace. Nonzero if its records are refused, which those just read are not. */
-static int print_trace(const uint64_t read[6], const uint8_t *records)
+/* Whether the bytes could be printed. */
+static int put(const void *bytes, size_t len)
 {
-    size_t rows = (size_t)read[4];
-    uint8_t *lines = room(rows * MOST_LINE);
-    uint64_t exported[5];
-    bo_export(read[3], records, rows * RECORD, lines, rows * MOST_LINE, exported);
-    if (exported[0] != 0) {
-        printf("refused %" PRIu64 " at record %" PRIu64 "\r\n", exported[0], exported[1]);
-        free(lines);
-        return 1;
-    }
-    printf("version %" PRIu64 ", start %" PRIu64 ", %" PRIu64 " rows, ", read[2], read[3], read[4]);
+    return fwrite(bytes, 1, len, stdout) == len;
+}
+
+static int put_refusal(uint64_t number, uint64_t place)
+{
+    return printf("refused %" PRIu64 " at line %" PRIu64 "\r\n", number, place) >= 0;
+}
+
+/* What a trace holds beside its records. */
+static int put_head(const uint64_t read[6])
+{
+    int done = printf("version %" PRIu64 ", start %" PRIu64 ", %" PRIu64 " rows, ", read[2], read[3], read[4]) >= 0;
     if (read[5] == 0)
-        printf("no step back\r\n");
-    else
-        printf("first step back at row %" PRIu64 "\r\n", read[5]);
-    fwrite(lines, 1, (size_t)exported[2], stdout);
+        return done && printf("no step back\r\n") >= 0;
+    return done && printf("first step back at row %" PRIu64 "\r\n", read[5]) >= 0;
+}
+
+/* What is printed for a text: status is 0 if it is a trace, and 1 if it is refused. */
+static int put_text(const uint8_t *text, size_t len, int *status)
+{
+    size_t rows = len / BUSHINGOWL_LEAST_ROW;
+    if (rows > BUSHINGOWL_MOST_ROWS)
+        rows = BUSHINGOWL_MOST_ROWS;
+    uint8_t *records = room(rows * BUSHINGOWL_RECORD);
+    uint64_t read[6];
+    bo_read(text, len, records, rows * BUSHINGOWL_RECORD, read);
+    *status = 1;
+    if (read[0] != 0) {
+        free(records);
+        return put_refusal(read[0], read[1]);
+    }
+    rows = (size_t)read[4];
+    uint8_t *lines = room(rows * BUSHINGOWL_MOST_LINE);
+    uint64_t exported[5];
+    bo_export(read[3], records, rows * BUSHINGOWL_RECORD, lines, rows * BUSHINGOWL_MOST_LINE, exported);
+    free(records);
+    /* Records just read are not refused. */
+    *status = exported[0] == 0 ? 0 : 1;
+    int done = *status == 0 ? put_head(read) && put(lines, (size_t)exported[2]) : put_refusal(exported[0], exported[1]);
     free(lines);
-    return 0;
+    return done;
 }
 
 int main(int argc, char **argv)
 {
     if (argc != 2) {
-        fputs("convert FILE\n", stderr);
+        fputs("usage: convert FILE\n", stderr);
         return 2;
     }
+#ifdef SIGPIPE
+    signal(SIGPIPE, SIG_IGN);
+#endif
     size_t len = 0;
-    uint8_t *text = whole_file(argv[1], &len);
-    if (text == NULL) {
-        perror(argv[1]);
-        return 2;
-    }
-    size_t most = len / LEAST_ROW * RECORD;
-    uint8_t *records = room(most);
-    uint64_t read[6];
-    bo_read(text, len, records, most, read);
-    int status = 1;
-    if (read[0] == 0)
-        status = print_trace(read, records);
-    else
-        printf("refused %" PRIu64 " at line %" PRIu64 "\r\n", read[0], read[1]);
-    free(records);
-    free(text);
-    if (fflush(stdout) != 0 || ferror(stdout))
+    uint8_t *text = contents(argv[1], &len);
+    int status;
+    int done = put_text(text, len, &status) && fflush(stdout) == 0;
+    /* A reader that closes early has what it wants. */
+    if (!done && errno != EPIPE) {
+        fprintf(stderr, "convert: can't write: %s\n", strerror(errno));
         status = 2;
+    }
+    free(text);
     return status;
 }

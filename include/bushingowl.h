@@ -1,8 +1,75 @@
-/* Bushingowl: CAN traces (PEAK TRC 1.1 and 1.2), packed records and Telemotive ASCII.
+/* Bushingowl: CAN traces (PEAK TRC 1.1 and 1.2) to packed records and back, and packed records to Telemotive ASCII.
  *
- * Every function takes any bytes and any numbers, and keeps nothing. A slice is a pointer and a length; a length of 0 may come with any pointer
- * that is not null. Slices of one call must not overlap. answer[0] is the number (0: accepted) and answer[1] the place; with a refusal the
- * other numbers are 0 and the output holds what it held before. The numbers are listed in README.md.
+ * WHAT A CALL DOES
+ *
+ * Every function takes any bytes and any numbers. It allocates nothing, keeps no pointer and has no state, so that
+ * several threads may call at once. What it has to say goes to the array `answer`:
+ *
+ *   answer[0]  the number: 0 accepted, anything else a refusal
+ *   answer[1]  the place: a line of a text or a record of a list, each from 1; 0 where the refusal has no place, and
+ *              when accepted
+ *   the rest   as the function says; all 0 with a refusal
+ *
+ * Every number of the answer is set by every call. Accepted: the output begins with the bytes written, and behind them
+ * it holds what it held before. Refused: all of the output holds what it held before.
+ *
+ * POINTERS
+ *
+ * Bytes are lent as a pointer and a length. Only where the length is 0 the pointer may be null. `answer` and `fields`
+ * are never null, and have as many numbers as their brackets say. What is lent to one call does not overlap: neither
+ * input and output, nor either of them and the answer, nor the answer and the fields. Nothing else writes to any of it
+ * during the call.
+ *
+ * TIMES
+ *
+ * A start counts milliseconds from 30 December 1899, 0:00, in the local time of the logger (1 January 1970 is day
+ * 25,569). An offset counts microseconds from the start. The stamp of a record is start plus offset. Offsets of a trace
+ * may go back from row to row.
+ *
+ * THE PACKED RECORD
+ *
+ * 20 bytes, 160 bits, the most significant first. A list of records is one after the other, with nothing between.
+ *
+ *   bits  field
+ *     48  offset    microseconds from the start, 0 to 99,999,999,999,999
+ *      5  bus       1 to 16; 0 for none, which is so for version 1.1
+ *      3  kind      one of the six below
+ *      1  extended  1 for an ID of the extended form, whatever its value; 0 for a standard one
+ *     29  ID        standard 0 to 0x7FF, extended 0 to 0x1FFFFFFF
+ *      4  length    0 to 8
+ *     64  data      eight bytes, the first one first; those past the length are 0
+ *      6  zero
+ *
+ * A record is well formed if its fields lie within these limits and, by its kind: of a remote frame all data is 0 (its
+ * length is the one asked for); a warning has extended 0, ID 0 and length 4; an error frame has extended 0, ID 1, 2, 4
+ * or 8, length 4, a first byte of 0 (sending) or 1 (receiving) and as second byte a position in the bit stream: 2 to 15,
+ * 17, 18, 19, 23 to 28. Its third and fourth byte are the error counters.
+ *
+ * REFUSALS
+ *
+ *   no.  place   given exactly when                                                     by
+ *    1   0       the text has more than 134,217,728 bytes                               bo_read
+ *    2   line    a line is not ended by CR LF                                           bo_read
+ *    3   line    an ended line has more than 250 bytes before its CR LF                 bo_read
+ *    4   1       line 1 is absent or no version line (;$FILEVERSION=1.1 or 1.2)         bo_read
+ *    5   2       line 2 is absent, or no start line (;$STARTTIME=36585.5) or one with   bo_read
+ *                a start above 8,639,999,999,999
+ *    6   line    from line 3 on, a comment whose first byte behind ; and blanks is $    bo_read
+ *    7   line    from line 3 on, any other line that is no comment and no row           bo_read
+ *    8   0       the trace is good, and the output too short for its records            bo_read
+ *   20   0       the bytes of the records are no multiple of 20 or above 19,999,980     bo_write, bo_export
+ *                the bytes of the one record are not 20                                 bo_unpack
+ *   21   0       the version is neither 11 nor 12                                       bo_write
+ *   22   0       the start is above 8,639,999,999,999                                   bo_write, bo_export
+ *   23   record  the first record that is not well formed                               bo_write, bo_export
+ *        1       the record is not well formed                                          bo_unpack, bo_pack
+ *   24   record  the first record that the version can't carry: 11 needs bus 0 and      bo_write
+ *                an offset of whole 100 microseconds, 12 needs bus 1 to 16
+ *   25   0       everything is good, and the output too short                           bo_write, bo_export, bo_pack
+ *
+ * Of several, bo_read gives 1 first, then that of the earliest line (on one line 2, then 3, then the rest), and 8 last.
+ * The others give the one that stands first in this table; bo_write tests all records for 23 before any for 24.
+ * docs/FORMAT.md says what a row, a comment and the first two lines are.
  */
 #ifndef BUSHINGOWL_H
 #define BUSHINGOWL_H
@@ -14,26 +81,83 @@
 extern "C" {
 #endif
 
-/* Reads a trace text of at most 134,217,728 bytes into packed records, 20 bytes each.
- * answer: number, place (a line), version (11 or 12), start in milliseconds, rows, first row whose offset steps back (or 0). */
+/* The state of this interface: one more whenever a function's parameters or answer change. */
+#define BUSHINGOWL_API 1
+
+/* The kinds of a record. Only data frames give a line of an export. */
+#define BUSHINGOWL_DATA_RECEIVED 0
+#define BUSHINGOWL_DATA_SENT 1
+#define BUSHINGOWL_REMOTE_RECEIVED 2
+#define BUSHINGOWL_REMOTE_SENT 3
+#define BUSHINGOWL_WARNING 4
+#define BUSHINGOWL_ERROR_FRAME 5
+
+/* The bytes of a packed record. */
+#define BUSHINGOWL_RECORD 20
+
+/* The most bytes of a text that bo_read takes. */
+#define BUSHINGOWL_MOST_TEXT 134217728
+
+/* The most rows of a text, and so the most records of a list: row numbers end at 999,999. */
+#define BUSHINGOWL_MOST_ROWS 999999
+
+/* The fewest bytes of a row with its CR LF, which are those of `1) 0.0 Rx 0000 0`. So a text of n bytes has at most
+ * n / BUSHINGOWL_LEAST_ROW rows, and never more than BUSHINGOWL_MOST_ROWS. */
+#define BUSHINGOWL_LEAST_ROW 18
+
+/* The most bytes that bo_write gives for lines 1 and 2 with their CR LF: 19 for `;$FILEVERSION=1.2`, and 30 for
+ * `;$STARTTIME=` with five digits of the day, a point and ten digits. */
+#define BUSHINGOWL_MOST_HEADER 49
+
+/* The most bytes that bo_write gives for a record, with CR LF:
+ * `999999) 99999999999.999 16 Rx 1FFFFFFF 8 00 11 22 33 44 55 66 77`. */
+#define BUSHINGOWL_MOST_ROW 66
+
+/* The most bytes that bo_export gives for a record, with CR LF:
+ * `29.02.2000 12:00:00.0000 CANExt #16 | EXTENDED Rx 1fffffff 8 00 11 22 33 44 55 66 77`. */
+#define BUSHINGOWL_MOST_LINE 86
+
+/* The last start, the last millisecond of day 99,999: 8,639,999,999,999. */
+#define BUSHINGOWL_MOST_START ((uint64_t)99999 * 86400000 + 86399999)
+
+/* The largest offset, eleven digits of milliseconds and three behind the point: 99,999,999,999,999 microseconds. */
+#define BUSHINGOWL_MOST_OFFSET ((uint64_t)99999999 * 1000000 + 999999)
+
+/* Reads a trace text into packed records.
+ * out: BUSHINGOWL_RECORD bytes for each row; text_len / BUSHINGOWL_LEAST_ROW * BUSHINGOWL_RECORD bytes are enough for
+ *   any text, and so are BUSHINGOWL_MOST_ROWS * BUSHINGOWL_RECORD.
+ * answer: number, place (a line), version (11 for 1.1, 12 for 1.2), start, rows, the first row, from 1, whose offset is
+ *   below that of the row before it (0 if there is none).
+ * Refusals: 1 to 8. */
 void bo_read(const uint8_t *text, size_t text_len, uint8_t *out, size_t out_len, uint64_t answer[6]);
 
-/* Writes packed records as a trace text. version is 11 or 12, start in milliseconds.
- * answer: number, place (a record), bytes written. */
+/* Writes packed records as a trace text, which bo_read reads back as the same version, start and records.
+ * version: 11 for 1.1, 12 for 1.2.
+ * out: BUSHINGOWL_MOST_HEADER + records_len / BUSHINGOWL_RECORD * BUSHINGOWL_MOST_ROW bytes are enough.
+ * answer: number, place (a record), bytes written.
+ * Refusals: 20 to 25. */
 void bo_write(uint32_t version, uint64_t start, const uint8_t *records, size_t records_len, uint8_t *out, size_t out_len,
               uint64_t answer[3]);
 
-/* Unpacks one record of 20 bytes.
- * answer: number, place, offset in microseconds, bus, kind, extended, ID, length, data (first byte most significant). */
+/* Exports the data frames among packed records as lines of Telemotive ASCII; the other records are left out. A stamp is
+ * cut to 100 microseconds, and bus 0 is written as channel 1.
+ * out: records_len / BUSHINGOWL_RECORD * BUSHINGOWL_MOST_LINE bytes are enough.
+ * answer: number, place (a record), bytes written, lines, records left out.
+ * Refusals: 20, 22, 23, 25. */
+void bo_export(uint64_t start, const uint8_t *records, size_t records_len, uint8_t *out, size_t out_len, uint64_t answer[5]);
+
+/* Takes one packed record of BUSHINGOWL_RECORD bytes apart.
+ * answer: number, place, offset, bus, kind, extended, ID, length, data (the first byte the most significant).
+ * Refusals: 20, 23. */
 void bo_unpack(const uint8_t *record, size_t record_len, uint64_t answer[9]);
 
-/* Packs one record: offset, bus, kind, extended, ID, length, data. Any value of any field may be given; what does not fit is 23.
- * answer: number, place. */
+/* Packs one record.
+ * fields: offset, bus, kind, extended, ID, length, data (the first byte the most significant), each with any value;
+ *   what is not well formed is 23.
+ * out: BUSHINGOWL_RECORD bytes.
+ * answer: number, place.
+ * Refusals: 23, 25. */
 void bo_pack(const uint64_t fields[7], uint8_t *out, size_t out_len, uint64_t answer[2]);
-
-/* Exports packed records as lines of Telemotive ASCII.
- * answer: number, place (a record), bytes written, lines, records left out. */
-void bo_export(uint64_t start, const uint8_t *records, size_t records_len, uint8_t *out, size_t out_len, uint64_t answer[5]);
 
 #ifdef __cplusplus
 }

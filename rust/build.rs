@@ -1,35 +1,49 @@
-//! Links the library's archive: the file that BUSHINGOWL_LIB names, or else the one that `rt staticlib capi` makes.
+//! Links the library's archive, whose path the script `library` beside this file prints: that of the file that BUSHINGOWL_LIB names, or else of
+//! the one that is proved and made here.
 
 use std::env;
+use std::ffi::OsString;
+use std::fs;
 use std::path::{Path, PathBuf};
+use std::process::{exit, Command, Stdio};
 
 fn main() {
-    println!("cargo:rerun-if-env-changed=BUSHINGOWL_LIB");
     let archive = archive();
-    println!("cargo:rerun-if-changed={}", archive.display());
-    let (Some(folder), Some(name)) = (archive.parent(), archive.file_name()) else {
-        panic!("{} is no file", archive.display());
-    };
+    // A copy, so that an archive just made does not count as changed.
+    let folder = PathBuf::from(set_by_cargo("OUT_DIR"));
+    if let Err(error) = fs::copy(&archive, folder.join("libcapi.a")) {
+        panic!("{} can't be copied: {error}", archive.display());
+    }
     println!("cargo:rustc-link-search=native={}", folder.display());
-    let name = name.to_string_lossy();
-    println!("cargo:rustc-link-lib=static:+verbatim={name}");
+    println!("cargo:rustc-link-lib=static=capi");
+    println!("cargo:rerun-if-env-changed=BUSHINGOWL_LIB");
+    if env::var_os("BUSHINGOWL_LIB").is_some_and(|named| !named.is_empty()) {
+        println!("cargo:rerun-if-changed={}", archive.display());
+    } else {
+        for made_of in ["library", "../crates", "../crates.txt"] {
+            println!("cargo:rerun-if-changed={made_of}");
+        }
+    }
 }
 
 fn archive() -> PathBuf {
-    let named = match env::var_os("BUSHINGOWL_LIB") {
-        Some(path) => PathBuf::from(path),
-        None => made_here(),
-    };
-    named.canonicalize().unwrap_or_else(|_| {
-        panic!(
-            "the library is not at {}: run `rt staticlib capi` in the repository root, \
-             or let BUSHINGOWL_LIB name the archive",
-            named.display()
-        )
-    })
+    let here = set_by_cargo("CARGO_MANIFEST_DIR");
+    let script = Path::new(&here).join("library");
+    // A relative BUSHINGOWL_LIB counts from the folder in which cargo was called, not from that of this crate.
+    let called_in = env::var_os("PWD").unwrap_or(here);
+    let printed = Command::new(&script)
+        .current_dir(called_in)
+        .stderr(Stdio::inherit())
+        .output()
+        .unwrap_or_else(|error| panic!("{}: {error}", script.display()));
+    if !printed.status.success() {
+        // The script has said why.
+        exit(1);
+    }
+    let path = String::from_utf8(printed.stdout).expect("the path of the archive is UTF-8");
+    PathBuf::from(path.trim_end_matches('\n'))
 }
 
-fn made_here() -> PathBuf {
-    let here = env::var_os("CARGO_MANIFEST_DIR").expect("cargo sets the folder of the crate");
-    Path::new(&here).join("../target/staticlib/libcapi.a")
+fn set_by_cargo(name: &str) -> OsString {
+    env::var_os(name).unwrap_or_else(|| panic!("cargo sets {name}"))
 }

@@ -1,49 +1,79 @@
-//! Prints what a trace file holds, and its export: `convert FILE`. All lines end with CR LF, as those of the export do.
+//! Prints what a trace file holds, and its export: `convert FILE`. All lines end with CR LF, as those of the export do. A pipe will do as well.
+//! Ends with 0 if the trace was exported, 1 if it was refused, and 2 if it could not be done.
 
-use bushingowl::{export, read, Refused, LEAST_ROW, MOST_LINE, RECORD};
-use std::io::{self, Write};
+use bushingowl::{export_to_vec, read_to_vec, Refused, MOST_TEXT};
+use std::ffi::{OsStr, OsString};
+use std::fs::File;
+use std::io::{self, ErrorKind, Read, Write};
 use std::process::ExitCode;
 
 fn main() -> ExitCode {
-    let Some(name) = std::env::args_os().nth(1) else {
-        eprintln!("convert FILE");
-        return ExitCode::from(2);
+    let names: Vec<OsString> = std::env::args_os().skip(1).collect();
+    let [name] = names.as_slice() else {
+        return failed("usage: convert FILE");
     };
-    let text = match std::fs::read(&name) {
+    let text = match contents(name) {
         Ok(text) => text,
         Err(error) => {
-            eprintln!("{}: {error}", name.to_string_lossy());
-            return ExitCode::from(2);
+            let name = name.to_string_lossy();
+            return failed(&format!("convert: can't read {name}: {}", words(&error)));
         }
     };
     let (output, code) = match convert(&text) {
         Ok(output) => (output, ExitCode::SUCCESS),
         Err(refused) => (refusal(refused), ExitCode::FAILURE),
     };
-    match io::stdout().write_all(&output) {
+    match print(&output) {
         Ok(()) => code,
-        Err(_) => ExitCode::from(2),
+        // A reader that closes early has what it wants.
+        Err(error) if error.kind() == ErrorKind::BrokenPipe => code,
+        Err(error) => failed(&format!("convert: can't write: {}", words(&error))),
     }
+}
+
+/// The bytes of a file. Of one above the limit one byte more is read than a text may have, so that it is refused as such.
+fn contents(name: &OsStr) -> io::Result<Vec<u8>> {
+    let mut text = Vec::new();
+    let most = MOST_TEXT as u64 + 1;
+    File::open(name)?.take(most).read_to_end(&mut text)?;
+    Ok(text)
 }
 
 /// What is printed for a good trace.
 fn convert(text: &[u8]) -> Result<Vec<u8>, Refused> {
-    let mut records = vec![0; text.len() / LEAST_ROW * RECORD];
-    let trace = read(text, &mut records)?;
-    records.truncate(trace.rows * RECORD);
-    let mut lines = vec![0; trace.rows * MOST_LINE];
-    let exported = export(trace.start, &records, &mut lines)?;
+    let (trace, records) = read_to_vec(text)?;
+    let (_, lines) = export_to_vec(trace.start, &records)?;
     let (version, start, rows) = (trace.version, trace.start, trace.rows);
     let back = match trace.step_back {
-        0 => "no step back".to_string(),
-        row => format!("first step back at row {row}"),
+        None => "no step back".to_string(),
+        Some(row) => format!("first step back at row {row}"),
     };
-    let mut output =
-        format!("version {version}, start {start}, {rows} rows, {back}\r\n").into_bytes();
-    output.extend(&lines[..exported.bytes]);
-    Ok(output)
+    let head = format!("version {version}, start {start}, {rows} rows, {back}\r\n");
+    Ok([head.as_bytes(), &lines].concat())
 }
 
 fn refusal(refused: Refused) -> Vec<u8> {
-    format!("refused {} at line {}\r\n", refused.number, refused.place).into_bytes()
+    format!("refused {} at line {}\r\n", refused.number(), refused.place).into_bytes()
+}
+
+fn print(output: &[u8]) -> io::Result<()> {
+    let mut stdout = io::stdout().lock();
+    stdout.write_all(output)?;
+    stdout.flush()
+}
+
+/// The system's words for an error, without its number.
+fn words(error: &io::Error) -> String {
+    let said = error.to_string();
+    said.split(" (os error")
+        .next()
+        .unwrap_or_default()
+        .to_string()
+}
+
+/// Says why it could not be done.
+fn failed(why: &str) -> ExitCode {
+    // Where not even this can be written, the status is all that is left.
+    let _ = writeln!(io::stderr(), "{why}");
+    ExitCode::from(2)
 }

@@ -1,7 +1,7 @@
 //! The functions of `include/bushingowl.h`, and all `unsafe` code of this crate.
 //!
 //! Why every call here is sound:
-//! - A slice goes over as its pointer and its length. An empty slice has a pointer that is not null, as the header asks.
+//! - A slice goes over as its pointer and its length.
 //! - The library reads and writes only within the lengths given.
 //! - `&mut` makes sure that the output and the answer overlap with nothing else in the call.
 //! - The library keeps no pointer and has no state, so that calls from several threads do not meet.

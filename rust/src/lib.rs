@@ -1,92 +1,99 @@
-//! CAN traces (PEAK TRC 1.1 and 1.2), packed records and Telemotive ASCII.
+//! CAN traces (PEAK TRC 1.1 and 1.2) to packed records and back, and packed records to Telemotive ASCII.
 //!
-//! Safe functions over the proved library. Every function takes any bytes and any numbers. With a refusal the
-//! output holds what it held before; otherwise what lies past the bytes written is as it was.
+//! Safe functions over the proved library. Every function takes any bytes and any numbers, and none panics. What can't be
+//! used gets a [`Refused`]: a number in words, with its line or record.
+//!
+//! [`read_to_vec`], [`write_to_vec`] and [`export_to_vec`] allocate what they hand out. [`read`], [`write()`] and [`export`]
+//! take the output from the caller, and allocate nothing: if accepted, it begins with the bytes written and behind them
+//! holds what it held before; if refused, all of it does. [`unpack`] and [`pack`] are for single records.
+//! [`numbers`] has the same functions with the plain numbers of the C boundary.
+//!
+//! A start counts milliseconds from 30 December 1899, 0:00, in the local time of the logger (1 January 1970 is day
+//! 25,569), and is at most [`MOST_START`]. An offset counts microseconds from the start, and is at most [`MOST_OFFSET`].
+//! A version is 11 for 1.1 and 12 for 1.2. A packed record has 20 bytes, which [`Record`] lists by their bits; a list of
+//! records is one after the other.
 //!
 //! ```
 //! let text = b";$FILEVERSION=1.1\r\n;$STARTTIME=36585.5\r\n1) 2.5 Rx 07FF 1 0a\r\n";
-//! let mut records = [0; 20];
-//! let read = bushingowl::read(text, &mut records).unwrap();
-//! assert_eq!((read.version, read.start, read.rows), (11, 3_160_987_200_000, 1));
-//! assert_eq!(bushingowl::unpack(&records).unwrap().offset, 2500);
+//! let (trace, records) = bushingowl::read_to_vec(text)?;
+//! assert_eq!((trace.version, trace.start, trace.rows), (11, 3_160_987_200_000, 1));
+//! for record in records.chunks(bushingowl::RECORD) {
+//!     assert_eq!(bushingowl::unpack(record)?.offset, 2500);
+//! }
+//! let (_, lines) = bushingowl::export_to_vec(trace.start, &records)?;
+//! assert_eq!(lines, b"29.02.2000 12:00:00.0025 CAN #1 | Rx 7ff 1 0a\r\n");
+//! # Ok::<(), bushingowl::Refused>(())
 //! ```
 
 mod boundary;
 pub mod numbers;
+mod record;
+mod refused;
 
-use std::error::Error;
-use std::fmt;
+pub use record::{Kind, Record};
+pub use refused::{Reason, Refused};
+
+use refused::accepted;
 
 /// The bytes of a packed record.
 pub const RECORD: usize = 20;
-/// The fewest bytes of a row, with its line end. So a text gives at most `text.len() / LEAST_ROW` records.
+/// The most bytes of a text that [`read`] takes.
+pub const MOST_TEXT: usize = 134_217_728;
+/// The most rows of a text, and so the most records of a list: row numbers end there.
+pub const MOST_ROWS: usize = 999_999;
+/// The fewest bytes of a row with its CR LF, which are those of `1) 0.0 Rx 0000 0`. So a text has at most
+/// `text.len() / LEAST_ROW` rows.
 pub const LEAST_ROW: usize = 18;
-/// The most bytes that [`write`] gives for the first two lines.
+/// The most bytes that [`write()`] gives for lines 1 and 2 with their CR LF: 19 for `;$FILEVERSION=1.2`, and 30 for
+/// `;$STARTTIME=` with five digits of the day, a point and ten digits.
 pub const MOST_HEADER: usize = 49;
-/// The most bytes that [`write`] gives for a record.
+/// The most bytes that [`write()`] gives for a record, with CR LF:
+/// `999999) 99999999999.999 16 Rx 1FFFFFFF 8 00 11 22 33 44 55 66 77`.
 pub const MOST_ROW: usize = 66;
-/// The most bytes that [`export`] gives for a record.
+/// The most bytes that [`export`] gives for a record, with CR LF:
+/// `29.02.2000 12:00:00.0000 CANExt #16 | EXTENDED Rx 1fffffff 8 00 11 22 33 44 55 66 77`.
 pub const MOST_LINE: usize = 86;
-
-/// Why a call was refused.
-#[derive(Clone, Copy, Debug, PartialEq, Eq)]
-pub struct Refused {
-    /// The refusal number, as listed in the README.
-    pub number: u64,
-    /// The line of a text or the record of a list, from 1, or 0.
-    pub place: u64,
-}
-
-impl fmt::Display for Refused {
-    fn fmt(&self, f: &mut fmt::Formatter) -> fmt::Result {
-        match self.place {
-            0 => write!(f, "refused {}", self.number),
-            place => write!(f, "refused {} at {place}", self.number),
-        }
-    }
-}
-
-impl Error for Refused {}
+/// The last start, the last millisecond of day 99,999.
+pub const MOST_START: u64 = 8_639_999_999_999;
+/// The largest offset, eleven digits of milliseconds and three behind the point.
+pub const MOST_OFFSET: u64 = 99_999_999_999_999;
 
 /// What a text holds beside its records.
-#[derive(Clone, Copy, Debug, PartialEq, Eq)]
+#[derive(Clone, Copy, Debug, PartialEq, Eq, Hash)]
 pub struct Read {
-    /// 11 or 12.
+    /// 11 for 1.1, 12 for 1.2.
     pub version: u32,
-    /// Milliseconds since 30 December 1899.
+    /// Milliseconds from 30 December 1899.
     pub start: u64,
     pub rows: usize,
-    /// The first row, from 1, whose offset is below that of the row before, or 0.
-    pub step_back: usize,
-}
-
-/// One record.
-#[derive(Clone, Copy, Debug, PartialEq, Eq)]
-pub struct Record {
-    /// Microseconds since the start.
-    pub offset: u64,
-    /// 1 to 16, or 0 where there is none.
-    pub bus: u64,
-    /// 0 data received, 1 data sent, 2 remote received, 3 remote sent, 4 warning, 5 error frame.
-    pub kind: u64,
-    /// 1 for the extended form of the ID.
-    pub extended: u64,
-    pub id: u64,
-    pub length: u64,
-    /// The eight data bytes, the first most significant.
-    pub data: u64,
+    /// The first row, from 1, whose offset is below that of the row before it.
+    pub step_back: Option<usize>,
 }
 
 /// What an export gave.
-#[derive(Clone, Copy, Debug, PartialEq, Eq)]
+#[derive(Clone, Copy, Debug, PartialEq, Eq, Hash)]
 pub struct Exported {
+    /// The bytes of all lines.
     pub bytes: usize,
     pub lines: usize,
     /// The records that give no line.
     pub left_out: usize,
 }
 
-/// Reads a trace text into packed records of 20 bytes.
+/// Reads a trace text into packed records, [`RECORD`] bytes for each row.
+/// `text.len() / LEAST_ROW * RECORD` bytes are enough for any text, and so are `MOST_ROWS * RECORD`.
+///
+/// Refused with the numbers 1 to 8: 1 first, then that of the earliest line, 8 last.
+///
+/// ```
+/// let text = b";$FILEVERSION=1.2\r\n;$STARTTIME=36585.5\r\n1) 0.000 1 Rx 0123 2 0A FF\r\n";
+/// let mut records = [0xEE; 30];
+/// let trace = bushingowl::read(text, &mut records)?;
+/// assert_eq!((trace.version, trace.rows, trace.step_back), (12, 1, None));
+/// assert_eq!(records[..14], [0, 0, 0, 0, 0, 0, 8, 0, 0, 4, 0x8C, 0x82, 0xBF, 0xC0]);
+/// assert_eq!(records[20..], [0xEE; 10]);
+/// # Ok::<(), bushingowl::Refused>(())
+/// ```
 pub fn read(text: &[u8], out: &mut [u8]) -> Result<Read, Refused> {
     let [number, place, version, start, rows, step_back] = numbers::read(text, out);
     accepted(number, place)?;
@@ -94,48 +101,78 @@ pub fn read(text: &[u8], out: &mut [u8]) -> Result<Read, Refused> {
         version: version as u32,
         start,
         rows: rows as usize,
-        step_back: step_back as usize,
+        step_back: (step_back != 0).then_some(step_back as usize),
     })
 }
 
-/// Writes packed records as a trace text of version 11 or 12, and gives the number of its bytes.
+/// Reads a trace text, and hands out its packed records.
+///
+/// Refused as [`read`] is, but never for room.
+///
+/// ```
+/// let (trace, records) = bushingowl::read_to_vec(b";$FILEVERSION=1.2\r\n;$STARTTIME=0.0\r\n")?;
+/// assert_eq!((trace.rows, records.len()), (0, 0));
+/// # Ok::<(), bushingowl::Refused>(())
+/// ```
+pub fn read_to_vec(text: &[u8]) -> Result<(Read, Vec<u8>), Refused> {
+    let rows = (text.len() / LEAST_ROW).min(MOST_ROWS);
+    let mut records = vec![0; rows * RECORD];
+    let trace = read(text, &mut records)?;
+    records.truncate(trace.rows * RECORD);
+    Ok((trace, records))
+}
+
+/// Writes packed records as a trace text, and gives the number of its bytes. [`read`] gives back the same version, start
+/// and records. `MOST_HEADER + records.len() / RECORD * MOST_ROW` bytes are enough.
+///
+/// Refused with the numbers 20 to 25, the lowest that applies.
+///
+/// ```
+/// let mut text = [0; bushingowl::MOST_HEADER];
+/// let bytes = bushingowl::write(11, 43_200_000, &[], &mut text)?;
+/// assert_eq!(&text[..bytes], b";$FILEVERSION=1.1\r\n;$STARTTIME=0.5000000000\r\n");
+/// # Ok::<(), bushingowl::Refused>(())
+/// ```
 pub fn write(version: u32, start: u64, records: &[u8], out: &mut [u8]) -> Result<usize, Refused> {
     let [number, place, bytes] = numbers::write(version, start, records, out);
     accepted(number, place)?;
     Ok(bytes as usize)
 }
 
-/// Takes one packed record of 20 bytes apart.
-pub fn unpack(record: &[u8]) -> Result<Record, Refused> {
-    let [number, place, offset, bus, kind, extended, id, length, data] = numbers::unpack(record);
-    accepted(number, place)?;
-    Ok(Record {
-        offset,
-        bus,
-        kind,
-        extended,
-        id,
-        length,
-        data,
-    })
+/// Writes packed records as a trace text, and hands it out.
+///
+/// Refused as [`write()`] is, but never for room.
+///
+/// ```
+/// use bushingowl::{read_to_vec, write_to_vec};
+/// let (trace, records) = read_to_vec(b"; $FILEVERSION=1.1\r\n;$STARTTIME=36585.5\r\n 1)  2.5 Rx 07ff 1 0a\r\n")?;
+/// let text = write_to_vec(trace.version, trace.start, &records)?;
+/// assert_eq!(text, b";$FILEVERSION=1.1\r\n;$STARTTIME=36585.5000000000\r\n1) 2.5 Rx 07FF 1 0A\r\n");
+/// # Ok::<(), bushingowl::Refused>(())
+/// ```
+pub fn write_to_vec(version: u32, start: u64, records: &[u8]) -> Result<Vec<u8>, Refused> {
+    let mut text = vec![0; MOST_HEADER + record_count(records) * MOST_ROW];
+    let bytes = write(version, start, records, &mut text)?;
+    text.truncate(bytes);
+    Ok(text)
 }
 
-/// Packs one record into the first 20 bytes of the output.
-pub fn pack(record: &Record, out: &mut [u8]) -> Result<(), Refused> {
-    let fields = [
-        record.offset,
-        record.bus,
-        record.kind,
-        record.extended,
-        record.id,
-        record.length,
-        record.data,
-    ];
-    let [number, place] = numbers::pack(&fields, out);
-    accepted(number, place)
-}
-
-/// Exports packed records as lines of Telemotive ASCII.
+/// Exports the data frames among packed records as lines of Telemotive ASCII; the other records are left out. A stamp
+/// is cut to 100 microseconds, and bus 0 is written as channel 1. `records.len() / RECORD * MOST_LINE` bytes are enough.
+///
+/// Refused with the numbers 20, 22, 23 and 25, the lowest that applies.
+///
+/// ```
+/// use bushingowl::{export, pack, Kind, Record, MOST_LINE, RECORD};
+/// let frame = Record { offset: 1_500_250, bus: 2, kind: Kind::DataSent, extended: true, id: 0x18AB_0001, length: 0, data: [0; 8] };
+/// let mut record = [0; RECORD];
+/// pack(&frame, &mut record)?;
+/// let mut lines = [0; MOST_LINE];
+/// let exported = export(3_160_987_200_000, &record, &mut lines)?;
+/// assert_eq!((exported.lines, exported.left_out), (1, 0));
+/// assert_eq!(&lines[..exported.bytes], b"29.02.2000 12:00:01.5002 CANExt #2 | EXTENDED Tx 18ab0001 0\r\n");
+/// # Ok::<(), bushingowl::Refused>(())
+/// ```
 pub fn export(start: u64, records: &[u8], out: &mut [u8]) -> Result<Exported, Refused> {
     let [number, place, bytes, lines, left_out] = numbers::export(start, records, out);
     accepted(number, place)?;
@@ -146,9 +183,56 @@ pub fn export(start: u64, records: &[u8], out: &mut [u8]) -> Result<Exported, Re
     })
 }
 
-fn accepted(number: u64, place: u64) -> Result<(), Refused> {
-    match number {
-        0 => Ok(()),
-        number => Err(Refused { number, place }),
-    }
+/// Exports packed records, and hands out the lines.
+///
+/// Refused as [`export`] is, but never for room.
+///
+/// ```
+/// let (exported, lines) = bushingowl::export_to_vec(0, &[])?;
+/// assert_eq!((exported.lines, lines.len()), (0, 0));
+/// # Ok::<(), bushingowl::Refused>(())
+/// ```
+pub fn export_to_vec(start: u64, records: &[u8]) -> Result<(Exported, Vec<u8>), Refused> {
+    let mut lines = vec![0; record_count(records) * MOST_LINE];
+    let exported = export(start, records, &mut lines)?;
+    lines.truncate(exported.bytes);
+    Ok((exported, lines))
+}
+
+/// Takes one packed record of [`RECORD`] bytes apart.
+///
+/// Refused with the numbers 20 and 23.
+///
+/// ```
+/// use bushingowl::{unpack, Kind};
+/// let record = unpack(&[0, 0, 0, 0, 0, 0, 8, 0, 0, 4, 0x8C, 0x82, 0xBF, 0xC0, 0, 0, 0, 0, 0, 0])?;
+/// assert_eq!((record.bus, record.kind, record.id), (1, Kind::DataReceived, 0x123));
+/// assert_eq!(record.data[..record.length.into()], [0x0A, 0xFF]);
+/// # Ok::<(), bushingowl::Refused>(())
+/// ```
+pub fn unpack(record: &[u8]) -> Result<Record, Refused> {
+    let [number, place, fields @ ..] = numbers::unpack(record);
+    accepted(number, place)?;
+    Ok(Record::of_fields(fields))
+}
+
+/// Packs one record into the first [`RECORD`] bytes of the output.
+///
+/// Refused with the numbers 23 and 25.
+///
+/// ```
+/// use bushingowl::{pack, Kind, Reason, Record, RECORD};
+/// let frame = Record { offset: 0, bus: 17, kind: Kind::RemoteReceived, extended: false, id: 0x124, length: 3, data: [0; 8] };
+/// let mut packed = [0; RECORD];
+/// assert_eq!(pack(&frame, &mut packed).unwrap_err().reason, Reason::NotWellFormed);
+/// assert_eq!(pack(&Record { bus: 16, ..frame }, &mut packed), Ok(()));
+/// ```
+pub fn pack(record: &Record, out: &mut [u8]) -> Result<(), Refused> {
+    let [number, place] = numbers::pack(&record.fields(), out);
+    accepted(number, place)
+}
+
+/// How many records there can be: bytes of more than [`MOST_ROWS`] are refused whatever the room.
+fn record_count(records: &[u8]) -> usize {
+    (records.len() / RECORD).min(MOST_ROWS)
 }

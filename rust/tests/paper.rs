@@ -1,6 +1,9 @@
 //! The small trace, there and back.
 
-use bushingowl::{export, pack, read, unpack, write, Exported, Read, Record, Refused};
+use bushingowl::{
+    export, export_to_vec, pack, read, read_to_vec, unpack, write, write_to_vec, Exported, Kind,
+    Read, Record,
+};
 
 const TEXT: &[u8] = b";$FILEVERSION=1.2\r\n\
     ;$STARTTIME=36585.5\r\n\
@@ -19,44 +22,56 @@ const FIRST: [u8; 20] = [
     0, 0, 0, 0, 0, 0, 8, 0, 0, 4, 0x8C, 0x82, 0xBF, 0xC0, 0, 0, 0, 0, 0, 0,
 ];
 
+const HELD: Read = Read {
+    version: 12,
+    start: START,
+    rows: 3,
+    step_back: Some(3),
+};
+const GIVEN: Exported = Exported {
+    bytes: LINES.len(),
+    lines: 2,
+    left_out: 1,
+};
+
 fn records() -> [u8; 60] {
     let mut records = [0; 60];
     read(TEXT, &mut records).unwrap();
     records
 }
 
+/// The output begins with these bytes, and behind them is what it was filled with.
+fn assert_begins(out: &[u8], bytes: &[u8]) {
+    let (begin, rest) = out.split_at(bytes.len());
+    assert_eq!(begin, bytes);
+    assert_eq!(rest, vec![0xEE; rest.len()]);
+}
+
 #[test]
 fn it_is_read() {
-    let mut records = [0xEE; 70];
-    let expected = Read {
-        version: 12,
-        start: START,
-        rows: 3,
-        step_back: 3,
-    };
-    assert_eq!(read(TEXT, &mut records), Ok(expected));
-    assert_eq!(records[..20], FIRST);
-    assert_eq!(records[60..], [0xEE; 10]);
+    let mut out = [0xEE; 70];
+    assert_eq!(read(TEXT, &mut out), Ok(HELD));
+    assert_eq!(out[..20], FIRST);
+    assert_begins(&out, &records());
+    assert_eq!(read_to_vec(TEXT), Ok((HELD, records().to_vec())));
 }
 
 #[test]
 fn it_is_written() {
-    let mut text = [0; 200];
-    let bytes = write(12, START, &records(), &mut text).unwrap();
-    assert_eq!(&text[..bytes], WRITTEN);
+    let mut out = [0xEE; 200];
+    let bytes = write(12, START, &records(), &mut out);
+    assert_eq!(bytes, Ok(WRITTEN.len()));
+    assert_begins(&out, WRITTEN);
+    assert_eq!(write_to_vec(12, START, &records()), Ok(WRITTEN.to_vec()));
 }
 
 #[test]
 fn it_is_exported() {
-    let mut lines = [0; 200];
-    let exported = export(START, &records(), &mut lines).unwrap();
-    let expected = Exported {
-        bytes: LINES.len(),
-        lines: 2,
-        left_out: 1,
-    };
-    assert_eq!(exported, expected);
-    assert_eq!(&lines[..exported.bytes], LINES);
+    let mut out = [0xEE; 200];
+    assert_eq!(export(START, &records(), &mut out), Ok(GIVEN));
+    assert_begins(&out, LINES);
+    let lines = LINES.to_vec();
+    assert_eq!(export_to_vec(START, &records()), Ok((GIVEN, lines)));
 }
 
 #[test]
@@ -64,43 +79,55 @@ fn a_record_is_unpacked_and_packed() {
     let record = Record {
         offset: 0,
         bus: 1,
-        kind: 0,
-        extended: 0,
+        kind: Kind::DataReceived,
+        extended: false,
         id: 0x123,
         length: 2,
-        data: 0x0AFF << 48,
+        data: [0x0A, 0xFF, 0, 0, 0, 0, 0, 0],
     };
     assert_eq!(unpack(&FIRST), Ok(record));
-    let mut packed = [0; 20];
+    let mut packed = [0xEE; 24];
     assert_eq!(pack(&record, &mut packed), Ok(()));
-    assert_eq!(packed, FIRST);
+    assert_begins(&packed, &FIRST);
 }
 
 #[test]
-fn refusals_have_number_and_place() {
-    let refused = |number, place| Refused { number, place };
-    let mut out = [0xEE; 60];
-    assert_eq!(read(b"", &mut out), Err(refused(4, 1)));
-    assert_eq!(read(TEXT, &mut out[..59]), Err(refused(8, 0)));
-    assert_eq!(read(&TEXT[..70], &mut out), Err(refused(2, 4)));
-    assert_eq!(write(13, START, &[], &mut out), Err(refused(21, 0)));
-    assert_eq!(write(11, START, &records(), &mut out), Err(refused(24, 1)));
-    assert_eq!(export(START, &[0xFF; 20], &mut out), Err(refused(23, 1)));
-    assert_eq!(unpack(&[]), Err(refused(20, 0)));
-    assert_eq!(out, [0xEE; 60]);
+fn the_other_rows_keep_their_fields() {
+    let records = records();
+    let second = Record {
+        offset: 1_500_250,
+        bus: 2,
+        kind: Kind::DataSent,
+        extended: true,
+        id: 0x18AB_0001,
+        length: 0,
+        data: [0; 8],
+    };
+    assert_eq!(unpack(&records[20..40]), Ok(second));
+    let third = Record {
+        offset: 1_500_249,
+        bus: 1,
+        kind: Kind::RemoteReceived,
+        extended: false,
+        id: 0x124,
+        length: 3,
+        data: [0; 8],
+    };
+    assert_eq!(unpack(&records[40..]), Ok(third));
 }
 
 #[test]
 fn nothing_is_fine() {
     let text = &TEXT[..40];
     assert_eq!(read(text, &mut []).map(|read| read.rows), Ok(0));
-    let exported = export(START, &[], &mut []);
-    assert_eq!(exported.map(|exported| exported.bytes), Ok(0));
-}
-
-#[test]
-fn a_refusal_can_be_shown() {
-    let shown = |number, place| Refused { number, place }.to_string();
-    assert_eq!(shown(7, 4), "refused 7 at 4");
-    assert_eq!(shown(25, 0), "refused 25");
+    assert_eq!(read_to_vec(text).map(|(_, records)| records), Ok(vec![]));
+    let none = Exported {
+        bytes: 0,
+        lines: 0,
+        left_out: 0,
+    };
+    assert_eq!(export(START, &[], &mut []), Ok(none));
+    assert_eq!(export_to_vec(START, &[]), Ok((none, vec![])));
+    let head = WRITTEN[..49].to_vec();
+    assert_eq!(write_to_vec(12, START, &[]), Ok(head));
 }

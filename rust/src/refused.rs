@@ -1,0 +1,130 @@
+//! Why a call was refused.
+
+use std::error::Error;
+use std::fmt;
+
+/// The reasons for a refusal, each with its number.
+#[derive(Clone, Copy, Debug, PartialEq, Eq, Hash)]
+#[non_exhaustive]
+pub enum Reason {
+    /// The text has more than [`MOST_TEXT`](crate::MOST_TEXT) bytes.
+    TextTooLong = 1,
+    /// A line is not ended by CR LF.
+    LineNotEnded = 2,
+    /// An ended line has more than 250 bytes before its CR LF.
+    LineTooLong = 3,
+    /// Line 1 is absent or no version line, which is `;$FILEVERSION=1.1` or `;$FILEVERSION=1.2`.
+    NoVersionLine = 4,
+    /// Line 2 is absent, or no start line such as `;$STARTTIME=36585.5`, or its start is above
+    /// [`MOST_START`](crate::MOST_START).
+    NoStartLine = 5,
+    /// From line 3 on, a comment with `$` first, behind `;` and blanks.
+    DollarComment = 6,
+    /// From line 3 on, any other line that is no comment and no row.
+    NoRow = 7,
+    /// The trace is good, and the output too short for its records.
+    NoRoomForRecords = 8,
+    /// The bytes are no multiple of 20 or more than [`MOST_ROWS`](crate::MOST_ROWS) records; for one record, not 20.
+    NoRecords = 20,
+    /// The version is neither 11 nor 12.
+    NoVersion = 21,
+    /// The start is above [`MOST_START`](crate::MOST_START).
+    StartTooLate = 22,
+    /// The first record that is not well formed.
+    NotWellFormed = 23,
+    /// The first record that the version can't carry: 11 needs bus 0 and an offset of whole 100 microseconds, 12 needs
+    /// bus 1 to 16.
+    NotCarried = 24,
+    /// Everything is good, and the output too short.
+    NoRoom = 25,
+}
+
+impl Reason {
+    /// The reasons in the order of their numbers.
+    pub const ALL: [Reason; 14] = [
+        Reason::TextTooLong,
+        Reason::LineNotEnded,
+        Reason::LineTooLong,
+        Reason::NoVersionLine,
+        Reason::NoStartLine,
+        Reason::DollarComment,
+        Reason::NoRow,
+        Reason::NoRoomForRecords,
+        Reason::NoRecords,
+        Reason::NoVersion,
+        Reason::StartTooLate,
+        Reason::NotWellFormed,
+        Reason::NotCarried,
+        Reason::NoRoom,
+    ];
+
+    /// The refusal number.
+    pub fn number(self) -> u64 {
+        self as u64
+    }
+
+    /// The reason that has this number.
+    pub fn of(number: u64) -> Option<Reason> {
+        Reason::ALL
+            .into_iter()
+            .find(|reason| reason.number() == number)
+    }
+}
+
+/// Why a call was refused, and where. It is shown in words, with its number.
+///
+/// ```
+/// use bushingowl::{read_to_vec, Reason, Refused};
+/// let text = b";$FILEVERSION=1.1\r\n;$STARTTIME=36585.5\r\n1) 2.5 Rx 07FF 1 0a\r\n2) 3.0 Rx 07FF 1\r\n";
+/// let refused = read_to_vec(text).unwrap_err();
+/// assert_eq!(refused, Refused { reason: Reason::NoRow, place: 4 });
+/// assert_eq!(refused.number(), 7);
+/// assert_eq!(refused.to_string(), "line 4 is no row (refusal 7)");
+/// ```
+#[derive(Clone, Copy, Debug, PartialEq, Eq, Hash)]
+pub struct Refused {
+    pub reason: Reason,
+    /// The line of a text or the record of a list, from 1; 0 where the reason has no place.
+    pub place: u64,
+}
+
+impl Refused {
+    /// The refusal number.
+    pub fn number(&self) -> u64 {
+        self.reason.number()
+    }
+}
+
+impl fmt::Display for Refused {
+    fn fmt(&self, f: &mut fmt::Formatter) -> fmt::Result {
+        let place = self.place;
+        match self.reason {
+            Reason::TextTooLong => write!(f, "the text has more than 134,217,728 bytes"),
+            Reason::LineNotEnded => write!(f, "line {place} is not ended by CR LF"),
+            Reason::LineTooLong => write!(f, "line {place} has more than 250 bytes"),
+            Reason::NoVersionLine => write!(f, "line {place} is no ;$FILEVERSION=1.1 or 1.2"),
+            Reason::NoStartLine => write!(f, "line {place} is no ;$STARTTIME= up to day 99,999"),
+            Reason::DollarComment => write!(f, "line {place} is a comment with $ first"),
+            Reason::NoRow => write!(f, "line {place} is no row"),
+            Reason::NoRoomForRecords => write!(f, "the output is too short for the records"),
+            Reason::NoRecords => write!(f, "the bytes are not 20 for each record, up to 999,999"),
+            Reason::NoVersion => write!(f, "the version is neither 11 nor 12"),
+            Reason::StartTooLate => write!(f, "the start lies past day 99,999"),
+            Reason::NotWellFormed => write!(f, "record {place} is not well formed"),
+            Reason::NotCarried => write!(f, "the version can't carry record {place}"),
+            Reason::NoRoom => write!(f, "the output is too short"),
+        }?;
+        write!(f, " (refusal {})", self.number())
+    }
+}
+
+impl Error for Refused {}
+
+/// What the first two numbers of an answer say.
+pub(crate) fn accepted(number: u64, place: u64) -> Result<(), Refused> {
+    if number == 0 {
+        return Ok(());
+    }
+    let reason = Reason::of(number).expect("the library gives only the numbers of its header");
+    Err(Refused { reason, place })
+}

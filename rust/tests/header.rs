@@ -1,0 +1,58 @@
+//! The constants of `include/bushingowl.h` are those of this crate.
+
+use bushingowl::{
+    Kind, LEAST_ROW, MOST_HEADER, MOST_LINE, MOST_OFFSET, MOST_ROW, MOST_ROWS, MOST_START,
+    MOST_TEXT, RECORD,
+};
+
+const HEADER: &str = include_str!("../../include/bushingowl.h");
+
+/// What the header defines this name as.
+fn defined(name: &str) -> &'static str {
+    let start = format!("#define BUSHINGOWL_{name} ");
+    let mut lines = HEADER.lines().filter_map(|line| line.strip_prefix(&start));
+    let value = lines.next().unwrap_or_else(|| panic!("no {name}"));
+    assert_eq!(lines.next(), None, "{name} twice");
+    value
+}
+
+#[test]
+fn sizes_are_the_same() {
+    let sizes = [
+        ("RECORD", RECORD),
+        ("MOST_TEXT", MOST_TEXT),
+        ("MOST_ROWS", MOST_ROWS),
+        ("LEAST_ROW", LEAST_ROW),
+        ("MOST_HEADER", MOST_HEADER),
+        ("MOST_ROW", MOST_ROW),
+        ("MOST_LINE", MOST_LINE),
+    ];
+    for (name, size) in sizes {
+        assert_eq!(defined(name), size.to_string(), "{name}");
+    }
+}
+
+#[test]
+fn limits_are_the_same() {
+    let start = "((uint64_t)99999 * 86400000 + 86399999)";
+    assert_eq!(defined("MOST_START"), start);
+    assert_eq!(MOST_START, 99_999 * 86_400_000 + 86_399_999);
+    let offset = "((uint64_t)99999999 * 1000000 + 999999)";
+    assert_eq!(defined("MOST_OFFSET"), offset);
+    assert_eq!(MOST_OFFSET, 99_999_999 * 1_000_000 + 999_999);
+}
+
+#[test]
+fn kinds_are_the_same() {
+    let kinds = [
+        ("DATA_RECEIVED", Kind::DataReceived),
+        ("DATA_SENT", Kind::DataSent),
+        ("REMOTE_RECEIVED", Kind::RemoteReceived),
+        ("REMOTE_SENT", Kind::RemoteSent),
+        ("WARNING", Kind::Warning),
+        ("ERROR_FRAME", Kind::ErrorFrame),
+    ];
+    for (name, kind) in kinds {
+        assert_eq!(defined(name), kind.number().to_string(), "{name}");
+    }
+}

@@ -1,0 +1,148 @@
+//! The constants are the very limits: what is as large is taken, and one more is not.
+
+use bushingowl::{
+    export_to_vec, pack, read_to_vec, unpack, write_to_vec, Kind, Reason, Record, LEAST_ROW,
+    MOST_HEADER, MOST_LINE, MOST_OFFSET, MOST_ROW, MOST_ROWS, MOST_START, MOST_TEXT, RECORD,
+};
+
+/// The record with the longest row and the longest line, but for its number.
+const LONGEST: Record = Record {
+    offset: MOST_OFFSET,
+    bus: 16,
+    kind: Kind::DataReceived,
+    extended: true,
+    id: 0x1FFF_FFFF,
+    length: 8,
+    data: [0, 0x11, 0x22, 0x33, 0x44, 0x55, 0x66, 0x77],
+};
+
+fn packs(record: &Record) -> bool {
+    let mut packed = [0; RECORD];
+    let answer = pack(record, &mut packed);
+    if answer.is_ok() {
+        assert_eq!(unpack(&packed).as_ref(), Ok(record));
+    }
+    answer.is_ok()
+}
+
+#[test]
+fn of_a_record() {
+    assert!(packs(&LONGEST));
+    let wrong = [
+        Record {
+            offset: MOST_OFFSET + 1,
+            ..LONGEST
+        },
+        Record { bus: 17, ..LONGEST },
+        Record {
+            id: 0x2000_0000,
+            ..LONGEST
+        },
+        Record {
+            id: 0x800,
+            extended: false,
+            ..LONGEST
+        },
+        Record {
+            length: 9,
+            ..LONGEST
+        },
+        Record {
+            length: 7,
+            ..LONGEST
+        },
+        Record {
+            kind: Kind::RemoteSent,
+            ..LONGEST
+        },
+    ];
+    for record in wrong {
+        assert!(!packs(&record), "{record:?}");
+    }
+}
+
+#[test]
+fn of_each_kind() {
+    let frame = Record {
+        offset: 0,
+        bus: 0,
+        extended: false,
+        id: 0,
+        length: 4,
+        data: [0; 8],
+        ..LONGEST
+    };
+    for (number, kind) in Kind::ALL.into_iter().enumerate() {
+        assert_eq!(kind.number(), number as u64);
+        let record = Record { kind, ..frame };
+        assert_eq!(packs(&record), kind != Kind::ErrorFrame);
+        let id = Record { id: 8, ..record };
+        let position = Record {
+            data: [1, 28, 0xFF, 0xFF, 0, 0, 0, 0],
+            ..id
+        };
+        let data = matches!(kind, Kind::DataReceived | Kind::DataSent);
+        assert_eq!(packs(&position), data || kind == Kind::ErrorFrame);
+        let remote = matches!(kind, Kind::RemoteReceived | Kind::RemoteSent);
+        assert_eq!(packs(&id), data || remote);
+    }
+    assert_eq!(Kind::of(6), None);
+}
+
+#[test]
+fn of_a_start() {
+    let text = write_to_vec(12, MOST_START, &[]).unwrap();
+    assert_eq!(text.len(), MOST_HEADER);
+    assert_eq!(read_to_vec(&text).unwrap().0.start, MOST_START);
+    let late = write_to_vec(12, MOST_START + 1, &[]).unwrap_err();
+    assert_eq!(late.reason, Reason::StartTooLate);
+}
+
+#[test]
+fn of_the_shortest_rows() {
+    let head = ";$FILEVERSION=1.1\r\n;$STARTTIME=0.0\r\n";
+    let row = "1) 0.0 Rx 0000 0\r\n";
+    assert_eq!(row.len(), LEAST_ROW);
+    let (trace, records) = read_to_vec(format!("{head}{row}").as_bytes()).unwrap();
+    assert_eq!((trace.rows, records.len()), (1, RECORD));
+    let shorter = format!("{head}1) 0.0 Rx 000 0\r\n");
+    assert_eq!(read_to_vec(shorter.as_bytes()).unwrap_err().place, 3);
+}
+
+#[test]
+fn of_rows_and_lines() {
+    let mut record = [0; RECORD];
+    pack(&LONGEST, &mut record).unwrap();
+    let mut records = record.repeat(MOST_ROWS);
+    let text = write_to_vec(12, MOST_START, &records).unwrap();
+    let last = b"999999) 99999999999.999 16 Rx 1FFFFFFF 8 00 11 22 33 44 55 66 77\r\n";
+    assert_eq!(last.len(), MOST_ROW);
+    assert!(text.ends_with(last));
+    let (trace, read) = read_to_vec(&text).unwrap();
+    assert_eq!((trace.rows, trace.step_back), (MOST_ROWS, None));
+    assert!(read == records);
+    let (exported, lines) = export_to_vec(MOST_START, &records).unwrap();
+    assert_eq!((exported.lines, exported.left_out), (MOST_ROWS, 0));
+    assert_eq!(lines.len(), MOST_ROWS * MOST_LINE);
+    let next = [text, b"1000000) 0.000 1 Rx 0000 0\r\n".to_vec()].concat();
+    let refused = read_to_vec(&next).unwrap_err();
+    assert_eq!((refused.number(), refused.place), (7, 1_000_002));
+    records.extend(record);
+    let many = write_to_vec(12, 0, &records).unwrap_err();
+    assert_eq!(many.reason, Reason::NoRecords);
+    assert_eq!(export_to_vec(0, &records).unwrap_err(), many);
+}
+
+#[test]
+fn of_a_text() {
+    let mut text = b";$FILEVERSION=1.1\r\n;$STARTTIME=0.0\r\n".to_vec();
+    let comment = [&[b';'; 250][..], b"\r\n"].concat();
+    let left = MOST_TEXT - text.len();
+    text.extend(comment.repeat(left / comment.len()));
+    text.extend(&comment[comment.len() - left % comment.len()..]);
+    assert_eq!(text.len(), MOST_TEXT);
+    assert_eq!(read_to_vec(&text).unwrap().0.rows, 0);
+    text.extend(b";");
+    let refused = read_to_vec(&text).unwrap_err();
+    assert_eq!(refused.reason, Reason::TextTooLong);
+}

@@ -1,0 +1,213 @@
+//! Every refusal of every function: its number, its place, and an output that is as it was.
+
+use bushingowl::{
+    export, export_to_vec, numbers, pack, read, read_to_vec, unpack, write, write_to_vec, Kind,
+    Reason, Record, Refused, MOST_START, MOST_TEXT, RECORD,
+};
+
+const HEAD: &str = ";$FILEVERSION=1.2\r\n;$STARTTIME=36585.5\r\n";
+const FRAME: Record = Record {
+    offset: 1_500_250,
+    bus: 2,
+    kind: Kind::DataReceived,
+    extended: false,
+    id: 0x7FF,
+    length: 1,
+    data: [0x0A, 0, 0, 0, 0, 0, 0, 0],
+};
+
+fn refused<T>(reason: Reason, place: u64) -> Result<T, Refused> {
+    Err(Refused { reason, place })
+}
+
+fn packed(record: &Record) -> [u8; RECORD] {
+    let mut packed = [0; RECORD];
+    pack(record, &mut packed).unwrap();
+    packed
+}
+
+/// Runs the call on an output of so many bytes, which it must leave as it is.
+fn untouched<T>(len: usize, call: impl Fn(&mut [u8]) -> T) -> T {
+    let mut out = vec![0xEE; len];
+    let answer = call(&mut out);
+    assert!(out.iter().all(|byte| *byte == 0xEE));
+    answer
+}
+
+#[test]
+fn of_reading() {
+    let lines = |lines: &str| format!("{HEAD}{lines}").into_bytes();
+    let long = format!(";{}\r\n", "x".repeat(250));
+    let cases = [
+        (lines("1) 0.000 1 Rx 0123 0"), Reason::LineNotEnded, 3),
+        (lines(";\r\n;\rx\r\n"), Reason::LineNotEnded, 4),
+        (lines(&long), Reason::LineTooLong, 3),
+        (b"".to_vec(), Reason::NoVersionLine, 1),
+        (b";$FILEVERSION=1.3\r\n".to_vec(), Reason::NoVersionLine, 1),
+        (HEAD.as_bytes()[..19].to_vec(), Reason::NoStartLine, 2),
+        (
+            b";$FILEVERSION=1.1\r\n;$STARTTIME=99999.9999999999\r\n".to_vec(),
+            Reason::NoStartLine,
+            2,
+        ),
+        (lines(";\r\n; $x\r\n"), Reason::DollarComment, 4),
+        (lines("1) 0.000 17 Rx 0123 0\r\n"), Reason::NoRow, 3),
+        (
+            lines("1) 0.000 1 Rx 0123 0\r\n1) 0.000 1 Rx 0123 0\r\n"),
+            Reason::NoRow,
+            4,
+        ),
+    ];
+    for (text, reason, place) in cases {
+        let shown = String::from_utf8_lossy(&text);
+        let answer = untouched(60, |out| read(&text, out));
+        assert_eq!(answer, refused(reason, place), "{shown}");
+        assert_eq!(read_to_vec(&text), refused(reason, place), "{shown}");
+    }
+}
+
+#[test]
+fn of_a_text_above_the_limit() {
+    let text = vec![b';'; MOST_TEXT + 1];
+    let expected = refused(Reason::TextTooLong, 0);
+    assert_eq!(untouched(60, |out| read(&text, out)), expected);
+    assert_eq!(read_to_vec(&text), refused(Reason::TextTooLong, 0));
+    let expected = refused(Reason::LineNotEnded, 1);
+    assert_eq!(read(&text[1..], &mut []), expected);
+}
+
+#[test]
+fn of_reading_without_room() {
+    let text = format!("{HEAD}1) 0.000 1 Rx 0123 0\r\n;\r\n2) 0.000 1 Rx 0123 0\r\n");
+    for len in [0, 19, 20, 39] {
+        let answer = untouched(len, |out| read(text.as_bytes(), out));
+        assert_eq!(answer, refused(Reason::NoRoomForRecords, 0));
+    }
+    assert_eq!(read(text.as_bytes(), &mut [0; 40]).unwrap().rows, 2);
+}
+
+#[test]
+fn of_writing() {
+    let good = packed(&FRAME);
+    let odd = packed(&Record { bus: 0, ..FRAME });
+    let bad = [0xFF; RECORD];
+    let cases: [(u32, u64, Vec<u8>, Reason, u64); 9] = [
+        (13, u64::MAX, vec![0xFF; 19], Reason::NoRecords, 0),
+        (13, u64::MAX, bad.to_vec(), Reason::NoVersion, 0),
+        (u32::MAX, 0, vec![], Reason::NoVersion, 0),
+        (12, MOST_START + 1, bad.to_vec(), Reason::StartTooLate, 0),
+        (12, 0, [good, odd, bad].concat(), Reason::NotWellFormed, 3),
+        (12, 0, [good, bad, odd].concat(), Reason::NotWellFormed, 2),
+        (12, 0, [good, odd, odd].concat(), Reason::NotCarried, 2),
+        (11, 0, good.to_vec(), Reason::NotCarried, 1),
+        (11, 0, odd.to_vec(), Reason::NotCarried, 1),
+    ];
+    for (version, start, records, reason, place) in cases {
+        let answer = untouched(300, |out| write(version, start, &records, out));
+        assert_eq!(answer, refused(reason, place));
+        let answer = write_to_vec(version, start, &records);
+        assert_eq!(answer, refused(reason, place));
+    }
+}
+
+#[test]
+fn of_exporting() {
+    let good = packed(&FRAME);
+    let bad = [0xFF; RECORD];
+    let cases: [(u64, Vec<u8>, Reason, u64); 4] = [
+        (u64::MAX, vec![0xFF; 21], Reason::NoRecords, 0),
+        (MOST_START + 1, bad.to_vec(), Reason::StartTooLate, 0),
+        (MOST_START, bad.to_vec(), Reason::NotWellFormed, 1),
+        (0, [good, good, bad].concat(), Reason::NotWellFormed, 3),
+    ];
+    for (start, records, reason, place) in cases {
+        let answer = untouched(300, |out| export(start, &records, out));
+        assert_eq!(answer, refused(reason, place));
+        assert_eq!(export_to_vec(start, &records), refused(reason, place));
+    }
+}
+
+#[test]
+fn of_writing_and_exporting_without_room() {
+    let records = [packed(&FRAME), packed(&FRAME)].concat();
+    let text = write_to_vec(12, 0, &records).unwrap();
+    let (exported, lines) = export_to_vec(0, &records).unwrap();
+    assert_eq!(exported.bytes, lines.len());
+    for less in [1, 2, 30] {
+        let answer = untouched(text.len() - less, |out| write(12, 0, &records, out));
+        assert_eq!(answer, refused(Reason::NoRoom, 0));
+        let answer = untouched(lines.len() - less, |out| export(0, &records, out));
+        assert_eq!(answer, refused(Reason::NoRoom, 0));
+    }
+    let mut out = vec![0; text.len()];
+    assert_eq!(write(12, 0, &records, &mut out), Ok(text.len()));
+    assert_eq!(out, text);
+    let mut out = vec![0; lines.len()];
+    assert_eq!(export(0, &records, &mut out), Ok(exported));
+    assert_eq!(out, lines);
+}
+
+#[test]
+fn of_single_records() {
+    for len in [0, 19, 21, 40] {
+        assert_eq!(unpack(&vec![0; len]), refused(Reason::NoRecords, 0));
+    }
+    assert_eq!(unpack(&[0xFF; RECORD]), refused(Reason::NotWellFormed, 1));
+    let bad = Record { length: 0, ..FRAME };
+    for len in [0, 20, 30] {
+        let answer = untouched(len, |out| pack(&bad, out));
+        assert_eq!(answer, refused(Reason::NotWellFormed, 1));
+    }
+    for len in [0, 19] {
+        let answer = untouched(len, |out| pack(&FRAME, out));
+        assert_eq!(answer, refused(Reason::NoRoom, 0));
+    }
+}
+
+#[test]
+fn with_zeros_for_all_other_numbers() {
+    assert_eq!(numbers::read(b"", &mut []), [4, 1, 0, 0, 0, 0]);
+    assert_eq!(numbers::write(13, 0, &[], &mut []), [21, 0, 0]);
+    assert_eq!(numbers::export(0, &[0], &mut []), [20, 0, 0, 0, 0]);
+    assert_eq!(numbers::unpack(&[]), [20, 0, 0, 0, 0, 0, 0, 0, 0]);
+    assert_eq!(numbers::pack(&[u64::MAX; 7], &mut [0; 20]), [23, 1]);
+    assert_eq!(numbers::pack(&[0; 7], &mut []), [25, 0]);
+}
+
+#[test]
+fn in_words() {
+    let shown = |reason, place| Refused { reason, place }.to_string();
+    let cases = [
+        (1, 0, "the text has more than 134,217,728 bytes (refusal 1)"),
+        (2, 5, "line 5 is not ended by CR LF (refusal 2)"),
+        (3, 9, "line 9 has more than 250 bytes (refusal 3)"),
+        (4, 1, "line 1 is no ;$FILEVERSION=1.1 or 1.2 (refusal 4)"),
+        (
+            5,
+            2,
+            "line 2 is no ;$STARTTIME= up to day 99,999 (refusal 5)",
+        ),
+        (6, 3, "line 3 is a comment with $ first (refusal 6)"),
+        (7, 4, "line 4 is no row (refusal 7)"),
+        (8, 0, "the output is too short for the records (refusal 8)"),
+        (
+            20,
+            0,
+            "the bytes are not 20 for each record, up to 999,999 (refusal 20)",
+        ),
+        (21, 0, "the version is neither 11 nor 12 (refusal 21)"),
+        (22, 0, "the start lies past day 99,999 (refusal 22)"),
+        (23, 8, "record 8 is not well formed (refusal 23)"),
+        (24, 8, "the version can't carry record 8 (refusal 24)"),
+        (25, 0, "the output is too short (refusal 25)"),
+    ];
+    assert_eq!(cases.len(), Reason::ALL.len());
+    for (number, place, words) in cases {
+        let reason = Reason::of(number).unwrap();
+        assert_eq!(reason.number(), number);
+        assert_eq!(shown(reason, place), words);
+    }
+    for number in [0, 9, 19, 26, u64::MAX] {
+        assert_eq!(Reason::of(number), None);
+    }
+}
