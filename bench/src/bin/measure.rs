@@ -10,7 +10,12 @@ use std::hint::black_box;
 use std::process::ExitCode;
 use std::time::{Duration, Instant};
 
-const ROWS: [usize; 3] = [10_000, 100_000, 999_999];
+/// The most rows of a trace: the last row number.
+const MOST_ROWS: usize = 999_999;
+const ROWS: [usize; 3] = [10_000, 100_000, MOST_ROWS];
+const USAGE: &str = "\
+usage: measure [ROWS...]
+times traces of so many rows, each a number from 1 to 999999; without ROWS those of 10000, 100000 and 999999";
 /// 1 November 2023, ten o'clock.
 const START: u64 = 3_907_994_400_000;
 /// How long each operation is tried, and how often at least.
@@ -19,12 +24,13 @@ const OFTEN_ENOUGH: usize = 7;
 
 fn main() -> ExitCode {
     let words = std::env::args().skip(1);
-    let Ok(mut sizes) = words
-        .map(|word| word.parse())
-        .collect::<Result<Vec<usize>, _>>()
-    else {
-        eprintln!("measure [ROWS...]");
-        return ExitCode::from(2);
+    let mut sizes = match words.map(rows).collect::<Result<Vec<_>, _>>() {
+        Ok(sizes) => sizes,
+        Err(word) => {
+            eprintln!("measure: {word:?} is no number of rows that a trace can be measured with");
+            eprintln!("{USAGE}");
+            return ExitCode::from(2);
+        }
     };
     if sizes.is_empty() {
         sizes.extend(ROWS);
@@ -37,6 +43,14 @@ fn main() -> ExitCode {
         }
     }
     ExitCode::SUCCESS
+}
+
+/// The rows that a word asks for, or the word.
+fn rows(word: String) -> Result<usize, String> {
+    match word.parse() {
+        Ok(rows @ 1..=MOST_ROWS) => Ok(rows),
+        _ => Err(word),
+    }
 }
 
 fn measure_all(rows: usize, version: u32) {

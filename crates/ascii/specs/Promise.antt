@@ -1,4 +1,4 @@
--- What `export` promises for every start, bytes of records and output.
+-- What `export` promises for every start, bytes of records and output. In words: docs/FORMAT.md, sections 10 and 11.
 use Prim.Native.Nat.{ℕ, _+_, _-_, _≤_, _<_}
 use mathlib.Core.Path.{_≡_}
 use mathlib.Core.Bool.{cond}

@@ -1,4 +1,5 @@
 -- The line of one record in Telemotive ASCII: the stamp, then each part behind one blank, then CR LF. Whoever prints the line says which channel it has.
+-- In words: docs/FORMAT.md, section 10.
 use Prim.Native.Nat.{ℕ, _+_, _*_, _^_}
 use mathlib.Core.Bool.{cond}
 use mathlib.Core.List.{List, [], _∷_, _++_}

@@ -1,4 +1,4 @@
--- Limits that more than one layer has.
+-- Limits that more than one layer has. In words: docs/FORMAT.md, section 6.
 use Prim.Native.Nat.{ℕ}
 
 -- The largest offset, in microseconds: eleven digits of milliseconds and three of their fraction.

@@ -1,4 +1,4 @@
--- The parts of a line, put together with blanks.
+-- The parts of a line, put together with blanks. In words: docs/FORMAT.md, section 9.
 use Prim.Native.Nat.{ℕ}
 use mathlib.Core.List.{List, [], _∷_, _++_}
 use Rattle.base.specs.Text.{blank}

@@ -1,4 +1,4 @@
--- Bytes, written as the text that they are.
+-- Bytes, written as the text that they are. In words: docs/FORMAT.md, section 1.
 use Prim.Native.Nat.{ℕ}
 use Prim.Native.Char.{code}
 use Prim.Native.String.{String, [], _∷_}

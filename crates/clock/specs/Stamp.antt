@@ -1,4 +1,5 @@
 -- The stamp of a record: its start plus its offset, cut down to 100 microseconds, as a date and a time of the day.
+-- In words: docs/FORMAT.md, section 10.
 use Prim.Native.Nat.{ℕ, suc, _+_, _*_, _≤_, _<_}
 use Rattle.clock.specs.declared.DayTime.{DayTime}
 use Rattle.clock.specs.declared.DateTime.{DateTime}

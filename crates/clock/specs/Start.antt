@@ -1,4 +1,4 @@
--- The start of a trace: from a day count and a decimal fraction of a day to milliseconds, and back.
+-- The start of a trace: from a day count and a decimal fraction of a day to milliseconds, and back. In words: docs/FORMAT.md, sections 4 and 9.
 use Prim.Native.Nat.{ℕ, suc, _+_, _*_, _^_, _≤_, _<_}
 
 -- The milliseconds of a day.

@@ -1,4 +1,4 @@
--- What is printed for an input: the export of its trace, or one line with its refusal.
+-- What is printed for an input: the export of its trace, or one line with its refusal. In words: docs/FORMAT.md, section 12.
 use Prim.Native.Nat.{ℕ, _*_, _≤_, _<_}
 use mathlib.Core.Path.{_≡_}
 use mathlib.Core.List.{List, [], _∷_, _++_}

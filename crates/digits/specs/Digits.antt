@@ -1,4 +1,4 @@
--- Numbers as digit strings: relations between a number and the bytes that spell it.
+-- Numbers as digit strings: relations between a number and the bytes that spell it. In words: docs/FORMAT.md, section 1.
 use Prim.Native.Nat.{ℕ, _+_, _*_, _^_, _≤_, _<_}
 use Prim.Native.Char.{code}
 use mathlib.Core.Path.{_≡_}

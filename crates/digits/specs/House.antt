@@ -1,4 +1,4 @@
--- The spelling that is written: the house's one text for a number.
+-- The spelling that is written: the house's one text for a number. In words: docs/FORMAT.md, section 9.
 use Prim.Native.Nat.{ℕ, zero, suc, _+_, _-_, _/_, _%_}
 use Prim.Native.Char.{code}
 use mathlib.Core.Bool.{true, false}

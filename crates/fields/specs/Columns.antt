@@ -1,4 +1,4 @@
--- The columns of a row, one by one: a relation between a value and the bytes of its field.
+-- The columns of a row, one by one: a relation between a value and the bytes of its field. In words: docs/FORMAT.md, section 6.
 use Prim.Native.Nat.{ℕ, _+_, _*_, _-_, _^_, _≤_}
 use Prim.Native.Char.{code}
 use mathlib.Core.Path.{_≡_}

@@ -1,4 +1,4 @@
--- The fields of a line: its runs of non-blank bytes.
+-- The fields of a line: its runs of non-blank bytes. In words: docs/FORMAT.md, section 6.
 use Prim.Native.Nat.{ℕ}
 use mathlib.Core.Path.{_≡_}
 use mathlib.Core.Logic.{_≢_}

@@ -1,4 +1,4 @@
--- Runs of bytes that share a property.
+-- Runs of bytes that share a property. In words: docs/FORMAT.md, section 1.
 use Prim.Native.Nat.{ℕ}
 use mathlib.Core.List.{List, [], _∷_}
 

@@ -1,4 +1,4 @@
--- The lines of a text, one by one: where a line ends, and what the first two lines and a comment are.
+-- The lines of a text, one by one: where a line ends, and what the first two lines and a comment are. In words: docs/FORMAT.md, sections 2 to 5.
 use Prim.Native.Nat.{ℕ, _≤_}
 use mathlib.Core.Path.{_≡_}
 use mathlib.Core.Logic.{_≢_}

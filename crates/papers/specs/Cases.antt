@@ -1,4 +1,4 @@
--- The cases that paper 01 marks P, "On either side of a limit", as one table.
+-- The cases that paper 01 marks P, "On either side of a limit", as one table. In words: docs/FORMAT.md, section 13.
 use Prim.Native.Nat.{ℕ, _+_, _*_, _<_}
 use Prim.Native.String.{String}
 use mathlib.Core.List.{List, [], _∷_}

@@ -1,4 +1,4 @@
--- A number in bytes, most significant first.
+-- A number in bytes, most significant first. In words: docs/FORMAT.md, section 8.
 use Prim.Native.Nat.{ℕ, zero, suc, _/_, _%_}
 use mathlib.Core.List.{List, [], _∷_, _++_}
 

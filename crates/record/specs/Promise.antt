@@ -1,4 +1,4 @@
--- The promises of `pack` and `unpack`, and the numbers of paper 01 for each of their answers.
+-- The promises of `pack` and `unpack`, and the numbers of paper 01 for each of their answers. In words: docs/FORMAT.md, section 11.
 use Prim.Native.Nat.{ℕ, _≤_, _<_}
 use mathlib.Core.Path.{_≡_}
 use mathlib.Core.Logic.{_≢_}

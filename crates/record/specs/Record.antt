@@ -1,4 +1,4 @@
--- What a record is: when its fields are well formed, and the twenty bytes that they are packed as.
+-- What a record is: when its fields are well formed, and the twenty bytes that they are packed as. In words: docs/FORMAT.md, section 8.
 use Prim.Native.Nat.{ℕ, _+_, _*_, _-_, _/_, _%_, _^_, _≤_, _<_}
 use mathlib.Core.Path.{_≡_}
 use mathlib.Core.Logic.{_⊎_}

@@ -1,4 +1,4 @@
--- Records in order, the bytes that they are packed as, and which bytes are such records.
+-- Records in order, the bytes that they are packed as, and which bytes are such records. In words: docs/FORMAT.md, section 8.
 use Prim.Native.Nat.{ℕ, _+_, _%_, _≤_}
 use mathlib.Core.Path.{_≡_}
 use mathlib.Core.List.{List, [], _∷_, _++_}

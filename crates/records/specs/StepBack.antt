@@ -1,4 +1,4 @@
--- The first step back of records in order: the first whose offset is below its predecessor's.
+-- The first step back of records in order: the first whose offset is below its predecessor's. In words: docs/FORMAT.md, section 8.
 use Prim.Native.Nat.{ℕ, _+_}
 use mathlib.Core.Bool.{true, false}
 use mathlib.Core.List.{List, [], _∷_}

@@ -1,4 +1,5 @@
 -- The house spelling of a row: one blank between fields, none at the ends, capital hexadecimal, no words, decimal without leading zeros.
+-- In words: docs/FORMAT.md, section 9.
 use Prim.Native.Nat.{ℕ, _+_, _*_, _-_, _/_, _%_, _^_}
 use mathlib.Core.Bool.{cond}
 use mathlib.Core.List.{List, [], _∷_, _++_}

@@ -1,5 +1,5 @@
 -- What a row of a trace is: a relation between a version, a row number, a record and the fields of a line. It is written column by column
--- from the last to the first, each over the whole record.
+-- from the last to the first, each over the whole record. In words: docs/FORMAT.md, section 6.
 use Prim.Native.Nat.{ℕ, suc, _+_, _*_, _/_, _^_, _≤_}
 use mathlib.Core.Path.{_≡_}
 use mathlib.Core.Bool.{Bool, true, false}

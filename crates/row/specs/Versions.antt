@@ -1,4 +1,4 @@
--- The versions of a trace, and what each decides. A version's number is its two figures: 11 is version 1.1.
+-- The versions of a trace, and what each decides. A version's number is its two figures: 11 is version 1.1. In words: docs/FORMAT.md, section 3.
 use Prim.Native.Nat.{ℕ, _/_, _%_, _≤_}
 use mathlib.Core.Path.{_≡_}
 use mathlib.Core.Bool.{Bool, cond}

@@ -1,4 +1,5 @@
 -- Any reader, any writer and any exporter, whatever the code: a function of what it is given, and when it keeps its promise.
+-- In words: docs/FORMAT.md, section 13.
 use Prim.Native.Nat.{ℕ, _*_}
 use mathlib.Core.List.{List, [], _∷_}
 use lib.ListN.{take, drop}

@@ -1,4 +1,5 @@
 -- The one statement: no program that keeps its promise is one of the wrong ones, and the traces that they are tried with are real.
+-- In words: docs/FORMAT.md, section 13.
 use Prim.Native.Nat.{ℕ, _*_, _≤_}
 use mathlib.Core.Path.{_≡_}
 use mathlib.Core.List.{List, [], _∷_}

@@ -1,4 +1,4 @@
--- The wrong programs of paper 01, "How tight a promise is": "These must be caught".
+-- The wrong programs of paper 01, "How tight a promise is": "These must be caught". In words: docs/FORMAT.md, section 13.
 use Prim.Native.Nat.{ℕ, suc, _≤_, _<_}
 use mathlib.Core.Path.{_≡_}
 use mathlib.Core.Logic.{_≢_, _⊎_}

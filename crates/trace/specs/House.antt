@@ -1,4 +1,4 @@
--- The house spelling of a whole trace, and which traces have one.
+-- The house spelling of a whole trace, and which traces have one. In words: docs/FORMAT.md, section 9.
 use Prim.Native.Nat.{ℕ, _+_, _*_, _/_, _%_, _^_, _≤_}
 use mathlib.Core.List.{List, [], _∷_, _++_}
 use lib.ListN.{length}

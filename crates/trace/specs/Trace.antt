@@ -1,4 +1,4 @@
--- What a trace is, and how it is spelled: a relation between its values and the bytes of a text.
+-- What a trace is, and how it is spelled: a relation between its values and the bytes of a text. In words: docs/FORMAT.md, sections 2 and 7.
 use Prim.Native.Nat.{ℕ, _+_, _≤_, _<_}
 use mathlib.Core.List.{List, [], _∷_, _++_}
 use lib.ListN.{length}

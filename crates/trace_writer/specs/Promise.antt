@@ -1,4 +1,4 @@
--- What `write` promises for every version, start, bytes of records and output.
+-- What `write` promises for every version, start, bytes of records and output. In words: docs/FORMAT.md, section 11.
 use Prim.Native.Nat.{ℕ, _+_, _≤_, _<_}
 use mathlib.Core.Path.{_≡_}
 use mathlib.Core.List.{List, [], _∷_, _++_}
