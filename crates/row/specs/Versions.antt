@@ -25,7 +25,7 @@ headLines v = 2
 abbrev pub fractionDigits : ℕ → ℕ
 fractionDigits v = cond (eqb v 11) 1 3
 
--- Version 1.2 only: bus.
+-- Version 1.2 only: bus. In 1.1 the bus is 0.
 abbrev pub hasBus : ℕ → Bool
 hasBus v = eqb v 12
 

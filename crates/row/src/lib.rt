@@ -12,8 +12,8 @@ pub use versions::is_version;
 // The place value of the first of eight data bytes: 256 ^ 7.
 pub const FIRST_PLACE: u64 = 72057594037927936;
 
-// Where the reader is in the columns of a row behind its number: what the next field is. Of the version only the offset depends, and whether a
-// bus follows it.
+// Where the reader is in the columns of a row behind its number: what the next field is. Only the offset, and whether a bus
+// follows it, depends on the version.
 pub enum Stage {
     Offset(u64),
     Bus,
