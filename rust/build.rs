@@ -1,10 +1,15 @@
-//! Links the library's archive: the file that BUSHINGOWL_LIB names, or else the one that `rt staticlib capi` makes.
+//! Links the library's archive, whose path the script `library` prints: the file that BUSHINGOWL_LIB names, or else the one that is proved and made
+//! for this processor, which takes minutes the first time.
 
 use std::env;
 use std::path::{Path, PathBuf};
+use std::process::Command;
 
 fn main() {
     println!("cargo:rerun-if-env-changed=BUSHINGOWL_LIB");
+    for made_of in ["library", "../tools/archive", "../crates", "../crates.txt"] {
+        println!("cargo:rerun-if-changed={made_of}");
+    }
     let archive = archive();
     println!("cargo:rerun-if-changed={}", archive.display());
     let (Some(folder), Some(name)) = (archive.parent(), archive.file_name()) else {
@@ -16,20 +21,15 @@ fn main() {
 }
 
 fn archive() -> PathBuf {
-    let named = match env::var_os("BUSHINGOWL_LIB") {
-        Some(path) => PathBuf::from(path),
-        None => made_here(),
-    };
-    named.canonicalize().unwrap_or_else(|_| {
-        panic!(
-            "the library is not at {}: run `rt staticlib capi` in the repository root, \
-             or let BUSHINGOWL_LIB name the archive",
-            named.display()
-        )
-    })
-}
-
-fn made_here() -> PathBuf {
     let here = env::var_os("CARGO_MANIFEST_DIR").expect("cargo sets the folder of the crate");
-    Path::new(&here).join("../target/staticlib/libcapi.a")
+    let mut library = Command::new(Path::new(&here).join("library"));
+    // cargo runs this in the crate's folder; a relative name is meant from the folder in which cargo was called.
+    if let Some(called_in) = env::var_os("PWD") {
+        library.current_dir(called_in);
+    }
+    let said = library.output().expect("the script `library` can be run");
+    if !said.status.success() {
+        panic!("{}", String::from_utf8_lossy(&said.stderr));
+    }
+    PathBuf::from(String::from_utf8_lossy(&said.stdout).trim_end_matches('\n'))
 }
