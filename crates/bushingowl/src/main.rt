@@ -60,11 +60,11 @@ fn paged(input: &[u8], records: &mut [u8], page: &mut [u8]) -> usize
     }
 }
 
-// Prints the first n bytes of a page.
-fn print(page: &[u8], n: usize)
+// Prints the first n bytes of a page, and says whether all of them could be written.
+fn print(page: &[u8], n: usize) -> bool
     requires { ⌜ n ≤ length (now page) ⌝ }
 {
-    io::write_all(STDOUT_FILENO, &page[0..n]);
+    io::write_all(STDOUT_FILENO, &page[0..n])
 }
 
 // Whether standard input can't be read, as one that fails before its end. At its end a read gives 0.
@@ -83,5 +83,10 @@ fn main() {
         return;
     }
     let n = paged(&input[..got], &mut records, &mut page);
-    print(&page, n);
+    if !print(&page, n) {
+        io::write_all(
+            STDERR_FILENO,
+            b"bushingowl: standard output can't be written\n",
+        );
+    }
 }
