@@ -291,7 +291,7 @@ fn put_pair(out: &mut [u8], at: usize, b: u64, pairs: &[u8; 512]) -> usize
     ensures { λ r. ⌜ r ≡ at + 3 ⌝ }
 {
     let i = 2 * b as usize;
-    put_three(out, at, 32, pairs[i], pairs[i + 1])
+    put_three(out, at, b' ', pairs[i], pairs[i + 1])
 }
 
 // The first n of the eight bytes of a word, each behind one blank, in the letter case of the table of pairs.

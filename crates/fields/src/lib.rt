@@ -80,7 +80,7 @@ fn none() -> Scan
     Scan { end: 0, value: 0 }
 }
 
-// The decimal digits from a place on, at most twelve.
+// The decimal digits from a place on, at most twelve: `0` is 48 and `9` is 57.
 fn decimal(w: &[u8; WINDOW], at: usize) -> Scan
     requires { ⌜ Lined (drop at (now w)) ⌝ }
     ensures { λ s. ⌜ Scanned DecimalDigit 10 12 (now (w .entry)) at s ⌝ }
