@@ -67,7 +67,7 @@ def records_of(text, own):
 def written(version, start, s, room):
     number, place, text = traces.write(version, start, s, room)
     if number: return refused(number, place)
-    return '0 0 %d %s untouched %s' % (len(text), shown(text), read(text.encode(), len(s)))
+    return '0 0 %d %s untouched %s' % (len(text), shown(text), read(text.encode(), 240))
 
 def exported(start, s, room):
     number, place, text, lines, left_out = ascii_lines.export(start, s, room)

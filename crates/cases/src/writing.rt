@@ -24,7 +24,8 @@ pub(crate) fn page() -> [u8; 700]
     [238; 700]
 }
 
-// Writes records as a trace, into the first `room` bytes of a page: number, place, bytes and text, and what is read back from it.
+// Writes records as a trace, into the first `room` bytes of a page: number, place, bytes and text, and what is
+// read back from it, with room for twelve records.
 fn write_into(version: u64, start: u64, records: &[u8], out: &mut [u8], room: usize) {
     if room <= out.len() {
         let w = trace_writer::write(version, start, records, &mut out[0..room]);
@@ -34,7 +35,7 @@ fn write_into(version: u64, start: u64, records: &[u8], out: &mut [u8], room: us
                 number(0);
                 number(bytes as u64);
                 output(out, bytes);
-                read(front(out, bytes), records.len());
+                read(front(out, bytes), 240);
             }
             Written::Refused { number: n, place } => refused(n, place, out),
         }
