@@ -1,3 +1,4 @@
 pub mod Cutting
 pub mod One
 pub mod Putting
+pub mod Wrong

@@ -15,7 +15,7 @@ convert-spec =
     (tie.spec
     (λ c κs. search needs)
     (λ c. search needs)
-    (λ c. too-long (c .before .before .before .before .if1 .taken) (c .before .before .put-refusal .ensures))
+    (λ c. too-long (omega arith) (c .before .before .put-refusal .ensures))
     (λ c κs. search needs)
     (λ c. search needs)
     (λ c. let p = rw (c .before .a .given .1) at (c .before .before .before .before .before .read .ensures) in omega (arith, read-within p))
