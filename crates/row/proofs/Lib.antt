@@ -5,8 +5,10 @@ pub mod Ending
 pub mod Fields
 pub mod Formed
 pub mod Least
+pub mod Long
 pub mod Moves
 pub mod One
+pub mod Open
 pub mod Plain
 pub mod Spelled
 pub mod Texts

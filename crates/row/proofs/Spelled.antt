@@ -55,10 +55,10 @@ bytes-spelled Then t whole (suc n) (suc m) place u p l z e =
 
 -- The columns.
 
-number-spelled : (k : ℕ) → 1 ≤ k → k ≤ lastNumber → NumberField k (numberText k)
+pub number-spelled : (k : ℕ) → 1 ≤ k → k ≤ lastNumber → NumberField k (numberText k)
 number-spelled k l h = record { digits = decimalText k; bytes = number-text k; spelled = decimal-spells k; low = l; high = h }
 
-offset-spelled : (w offset fraction : ℕ) {f : List ℕ} → offset ≤ offsetLimit → fraction < 10 ^ w
+pub offset-spelled : (w offset fraction : ℕ) {f : List ℕ} → offset ≤ offsetLimit → fraction < 10 ^ w
     → offset ≡ offset / 1000 * 1000 + fraction * 10 ^ (3 - w) → f ≡ decimalText (offset / 1000) ++ (46 ∷ paddedText w fraction) → OffsetField w offset f
 offset-spelled w offset fraction l h e q = record {
   whole = decimalText (offset / 1000);
@@ -73,12 +73,12 @@ offset-spelled w offset fraction l h e q = record {
   limit = l;
 }
 
-id-spelled : (x id : ℕ) → x ≤ 1 → (x ≡ 0 → id ≤ 0x7FF) → id < 2 ^ 29 → IdField x id (hexText Capital (4 + 4 * x) id)
+pub id-spelled : (x id : ℕ) → x ≤ 1 → (x ≡ 0 → id ≤ 0x7FF) → id < 2 ^ 29 → IdField x id (hexText Capital (4 + 4 * x) id)
 id-spelled zero id h s l = let k = s refl in standard refl (hex-spells Capital 4 id (omega arith)) k
 id-spelled (suc zero) id h s l = long refl (hex-spells Capital 8 id (omega arith)) (omega arith)
 id-spelled (suc (suc x)) id h s l = absurd (omega arith)
 
-length-spelled : (n m : ℕ) → n ≡ m → m ≤ 8 → LengthField m ((48 + n) ∷ [])
+pub length-spelled : (n m : ℕ) → n ≡ m → m ≤ 8 → LengthField m ((48 + n) ∷ [])
 length-spelled n m e h = record { small = h; spelled = rw e }
 
 module _ {r : Record} (w : WellFormed r) where
