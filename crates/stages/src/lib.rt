@@ -63,7 +63,7 @@ pub fn complete(p: Part) -> bool
         return false;
     }
     match stage {
-        Stage::Offset(version) => false,
+        Stage::Offset(_) => false,
         Stage::Bus => false,
         Stage::TypeColumn => false,
         Stage::Id => false,
