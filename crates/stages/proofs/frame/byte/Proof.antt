@@ -1,10 +1,10 @@
 -- `stages::frame::byte` reads one data byte.
-use mathlib.Core.Path.{refl}
 use native.Mathlib.Omega.{arith}
 use borrow.Author.Needs.{needs}
 use Rattle.row.proofs.Moves.{got, none-there}
-use Rattle.row.specs.inner.Stages.{no-byte, one-byte}
+use Rattle.row.specs.inner.Stages.{no-byte}
 use Rattle.row.proofs.Data.{byte-fits}
+use Rattle.stages.proofs.Laws.{byted}
 use Rattle.stages.proofs.frame.byte.Statement.{statement}
 use Rattle.stages.proofs.frame.byte.Tie as tie
 
@@ -21,5 +21,4 @@ byte-spec =
     omega (arith, s .pre, c .struct-known2 .given, byte-fits (s .args .p .place) (got (c .before .before .before .byte-field .ensures) (c .before .before .if1 .left) .has)))
     (λ c. search needs)
     (λ c κs. search needs)
-    (λ c. let g = got (c .before .before .before .before .byte-field .ensures) (c .before .before .before .if1 .left) in
-    rw (c .bytes-left .ensures) (one-byte (g .there) (g .place) (g .has) refl)))
+    (λ c. let s = c .before .before .before .before .before .before in byted (s .args .p) (got (c .before .before .before .before .byte-field .ensures) (c .before .before .before .if1 .left)) (c .bytes-left .ensures)))
