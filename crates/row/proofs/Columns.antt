@@ -19,6 +19,7 @@ use Rattle.row.specs.declared.Stage.{Stage}
 use Rattle.row.specs.declared.Stage.the-variants as stage
 use Rattle.row.specs.Versions.{Version, fractionDigits, hasBus}
 use Rattle.row.specs.Row
+use Rattle.row.specs.inner.Ids.{FormOf}
 use Rattle.row.specs.inner.Stages.{Steps, Continues, Good, known2, known4, continuesAt}
 use Rattle.row.proofs.Moves.{Got, barred, went}
 
@@ -168,6 +169,17 @@ pub data Form (v n x : ℕ) : Type 0 where
 pub form : {v x i : ℕ} {f : List ℕ} → HexField v f → IdField x i f → (i ≡ v) × Form v (length f) x
 form h (standard e k l) = let z = one-hex k (h .spelled) in (z, four (k .width) e (rw z at l))
 form h (long e k l) = let z = one-hex k (h .spelled) in (z, eight (k .width) e (rw z at l))
+
+-- `form` answers 0 or 1 for a form of an ID, and else 2
+pub formed : {v n x : ℕ} → FormOf v n x → x ≤ 1 → Form v n x
+formed (FormOf.standard a b e) l = four a e b
+formed (FormOf.long a b e) l = eight a e b
+formed (FormOf.neither a b e) l = absurd (omega arith)
+
+pub unformed : {v n x : ℕ} → FormOf v n x → 1 < x → (n ≡ 4 → v ≤ 0x7FF → ⊥) × (n ≡ 8 → v ≤ 0x1FFFFFFF → ⊥)
+unformed (FormOf.standard a b e) l = absurd (omega arith)
+unformed (FormOf.long a b e) l = absurd (omega arith)
+unformed (FormOf.neither a b e) l = (a, b)
 
 pub some-id : {x i : ℕ} {f : List ℕ} → IdField x i f → (v : ℕ) × HexField v f
 some-id {i = i} (standard e k l) = let n = k .width in (i, record { spelled = rw (← n) at k; short = omega arith })

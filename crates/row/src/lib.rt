@@ -1,7 +1,9 @@
 // One row of a trace: what its version decides, and the stages in which it is read. What each stage does to the state, field by field, is in
-// `specs/Stages`, with a law for each in `proofs/`; `row_reader` walks through them.
+// `specs/inner/Stages`, with a law for each in `proofs/`; `row_reader` walks through them.
+mod ids;
 mod versions;
 
+pub use ids::form;
 use record::Record;
 pub use versions::carries;
 pub use versions::fraction_digits;
@@ -11,6 +13,12 @@ pub use versions::is_version;
 
 // The place value of the first of eight data bytes: 256 ^ 7.
 pub const FIRST_PLACE: u64 = 72057594037927936;
+
+// That of the second: 256 ^ 6.
+pub const SECOND_PLACE: u64 = 281474976710656;
+
+// That of the third: 256 ^ 5.
+pub const THIRD_PLACE: u64 = 1099511627776;
 
 // Where the reader is in the columns of a row behind its number: what the next field is. Only the offset, and whether a bus
 // follows it, depends on the version.

@@ -5,7 +5,6 @@ use mathlib.Core.Path.{_≡_, refl}
 use mathlib.Core.Logic.{_≢_}
 use mathlib.Core.Bool.{true, false}
 use mathlib.Core.List.{List}
-use native.Mathlib.Omega.{arith}
 use native.Mathlib.Nat.{zero-add}
 use lib.ListN.{getD}
 use Rattle.digits.specs.Digits.{Hex}
@@ -18,6 +17,7 @@ use Rattle.record.specs.Record.{ErrorId, Position}
 use Rattle.row.specs.declared.Stage.the-variants as stage
 use Rattle.row.specs.Versions.{Version, fractionDigits, hasBus}
 use Rattle.row.specs.Row
+use Rattle.row.specs.inner.Ids.{FormOf}
 use Rattle.row.specs.inner.Stages.{Steps, Continues, one-byte, no-byte}
 use Rattle.row.proofs.Columns.{
   behind,
@@ -36,9 +36,8 @@ use Rattle.row.proofs.Columns.{
   type-frame,
   type-warning,
   type-error,
-  Form,
-  four,
-  eight,
+  formed,
+  unformed,
   id-barred,
   id-went,
   length-went,
@@ -74,7 +73,7 @@ use Rattle.row.proofs.Warnings.{
   error-second-barred,
   error-second-went,
 }
-use Rattle.row_reader.specs.inner.Chain.{seen, known, Ready, GoesRow, PutsSlot, PutsRemote, PutsWarning, FormOf, standard, long, neither}
+use Rattle.row_reader.specs.inner.Chain.{seen, known, Ready, GoesRow, PutsSlot, PutsRemote, PutsWarning}
 use Rattle.row_reader.specs.inner.Chain.{none as none-found}
 
 -- The row number.
@@ -151,14 +150,7 @@ module _ {w : List ℕ} {at : ℕ} {s : Scan} {out : List ℕ} where
 
     pub id-none : {x : ℕ} → s .end ≢ 0 → FormOf (s .value) (s .end - at) x → 1 < x
         → Steps w at (Continues (known stage.Id 0 0 0 out)) (behind 0 stage.Length 0 0 (seen out 0))
-    id-none n (standard a b e) l = absurd (omega arith)
-    id-none n (long a b e) l = absurd (omega arith)
-    id-none n (neither a b e) l = id-barred (known stage.Id 0 0 0 out) (got t n) _ refl a b
-
-    formed : {x : ℕ} → FormOf (s .value) (s .end - at) x → x ≤ 1 → Form (s .value) (s .end - at) x
-    formed (standard a b e) l = four a e b
-    formed (long a b e) l = eight a e b
-    formed (neither a b e) l = absurd (omega arith)
+    id-none n f l = let u = unformed f l in id-barred (known stage.Id 0 0 0 out) (got t n) _ refl (u .0) (u .1)
 
     pub id-on : {x : ℕ} {mid new : List ℕ} → s .end ≢ 0 → FormOf (s .value) (s .end - at) x → x ≤ 1 → PutsSlot 3 x out mid → PutsSlot 4 (s .value) mid new
         → Steps w at (Continues (known stage.Id 0 0 0 out)) (behind (s .end) stage.Length 0 0 (seen new 0))

@@ -1,18 +1,16 @@
 // An error frame, from its ID on: the ID, length 4, 0 or 1, a position, then two error counters.
-use crate::frame::SECOND_PLACE;
 use crate::frame::gap_byte;
 use crate::slots::put;
 use fields::WINDOW;
 use fields::at_end;
 use fields::skip_in;
 use row::FIRST_PLACE;
+use row::SECOND_PLACE;
+use row::THIRD_PLACE;
 ghost use lib.ListN.{drop};
 ghost use Rattle.fields.specs.inner.Window.{Lined, Starts};
 ghost use Rattle.row.specs.declared.Stage.the-variants as stage;
 ghost use Rattle.row_reader.specs.inner.Chain.{Ready, known, Goes};
-
-// The place value of the third of eight data bytes: 256 ^ 5.
-const THIRD_PLACE: u64 = 1099511627776;
 
 // The ID.
 pub fn gap_error_id(w: &[u8; WINDOW], at: usize, out: &mut [u64; 7]) -> usize

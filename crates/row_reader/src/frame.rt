@@ -6,32 +6,13 @@ use fields::WINDOW;
 use fields::at_end;
 use fields::skip_in;
 use row::FIRST_PLACE;
+use row::SECOND_PLACE;
+use row::form;
 ghost use Prim.Native.Nat.{_^_};
 ghost use lib.ListN.{drop};
 ghost use Rattle.fields.specs.inner.Window.{Lined, Starts};
 ghost use Rattle.row.specs.declared.Stage.the-variants as stage;
-ghost use Rattle.row_reader.specs.inner.Chain.{Ready, known, Goes, FormOf};
-
-// The place value of the second of eight data bytes: 256 ^ 6.
-pub const SECOND_PLACE: u64 = 281474976710656;
-
-// Whether the ID of a frame is extended, by its digits: 0 or 1; or 2 if no ID has so many digits and this value.
-fn form(width: usize, id: u64) -> u64
-    ensures { λ x. ⌜ FormOf id width x ⌝ }
-{
-    if width == 4 {
-        if id <= 0x7FF {
-            return 0;
-        }
-        return 2;
-    }
-    if width == 8 {
-        if id <= 0x1FFFFFFF {
-            return 1;
-        }
-    }
-    2
-}
+ghost use Rattle.row_reader.specs.inner.Chain.{Ready, known, Goes};
 
 // The ID.
 pub fn gap_id(w: &[u8; WINDOW], at: usize, out: &mut [u64; 7]) -> usize

@@ -1,5 +1,5 @@
 -- The chain of gaps and fields: what its functions promise each other. No public promise of the crate cites this file.
-use Prim.Native.Nat.{ℕ, suc, _+_, _≤_}
+use Prim.Native.Nat.{ℕ, suc, _+_}
 use mathlib.Core.Path.{_≡_}
 use mathlib.Core.Logic.{_≢_}
 use mathlib.Core.List.{List, [], _∷_}
@@ -73,9 +73,3 @@ pub record PutsWarning (old new : List ℕ) : Type 0 where
 pub data Finished (left a : ℕ) (r : Record) (out : List ℕ) (e : ℕ) : Type 0 where
   all-read : left ≡ 0 → out ≡ fieldsOf r → e ≡ suc a → Finished left a r out e
   some-left : left ≢ 0 → e ≡ 0 → Finished left a r out e
-
--- The two forms of a frame's ID, by its width: four digits up to 07FF, not extended, or eight up to 1FFFFFFF, extended. x is 2 if it has none.
-pub data FormOf (id width x : ℕ) : Type 0 where
-  standard : width ≡ 4 → id ≤ 0x7FF → x ≡ 0 → FormOf id width x
-  long : width ≡ 8 → id ≤ 0x1FFFFFFF → x ≡ 1 → FormOf id width x
-  neither : (width ≡ 4 → id ≤ 0x7FF → ⊥) → (width ≡ 8 → id ≤ 0x1FFFFFFF → ⊥) → x ≡ 2 → FormOf id width x

@@ -1,9 +1,9 @@
--- `row_reader::frame::form` tells the two forms of an ID by their widths.
+-- `row::ids::form` tells the two forms of an ID by their widths.
 use mathlib.Core.Path.{refl}
 use native.Mathlib.Omega.{arith}
-use Rattle.row_reader.specs.inner.Chain.{standard, long, neither}
-use Rattle.row_reader.proofs.frame.form.Statement.{statement}
-use Rattle.row_reader.proofs.frame.form.Tie as tie
+use Rattle.row.specs.inner.Ids.{standard, long, neither}
+use Rattle.row.proofs.ids.form.Statement.{statement}
+use Rattle.row.proofs.ids.form.Tie as tie
 
 pub form-spec : {M : Type 1} → statement M
 form-spec =
