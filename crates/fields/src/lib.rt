@@ -19,6 +19,9 @@ ghost use Rattle.fields.specs.inner.Window.{windowBytes, Lined, Skipped,
 // call with two numbers more.
 pub const WINDOW: usize = 4096;
 
+// The largest row number.
+pub const LAST_NUMBER: u64 = 999999;
+
 // What was read at a place: the place behind it, or 0, and its number.
 pub struct Scan {
     pub end: usize,

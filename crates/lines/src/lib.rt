@@ -36,7 +36,7 @@ pub enum Remark {
 }
 
 // Where the bytes before the first CR or LF end.
-fn inside_end(text: &[u8], at: usize) -> usize
+pub fn inside_end(text: &[u8], at: usize) -> usize
     requires { ⌜ at ≤ length (now text) ⌝ }
     ensures { λ r. ⌜ Ran Inside (now (text .entry)) at r ⌝ }
 {
@@ -72,7 +72,7 @@ pub fn line_end(text: &[u8], at: usize) -> Ending
 }
 
 // Where the bytes between two, these two among them, end that stand from a place on: blanks, or decimal digits.
-fn run_end(line: &[u8], at: usize, first: u8, last: u8) -> usize
+pub fn run_end(line: &[u8], at: usize, first: u8, last: u8) -> usize
     requires { ⌜ at ≤ length (now line) ⌝ }
     ensures { λ r. ⌜ Ran (Between first last) (now (line .entry)) at r ⌝ }
 {
