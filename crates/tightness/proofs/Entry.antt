@@ -28,7 +28,7 @@ use Rattle.trace.proofs.One.{one-trace}
 use Rattle.trace.proofs.There.{there}
 use Rattle.trace_writer.specs.Promise.{WritePromise}
 use Rattle.trace_writer.proofs.Answers as writing
-use Rattle.ascii.specs.Promise.{lineCount, ExportPromise}
+use Rattle.ascii.specs.Promise.{lineCount, leftCount, ExportPromise}
 use Rattle.ascii.proofs.Answers as exporting
 use Rattle.tightness.specs.Tight.{received12}
 use Rattle.tightness.proofs.Tried.{received-formed, received-carried}
@@ -138,3 +138,10 @@ pub one-line-more : {start bytes left : ℕ} {s before after : List ℕ} {rs : L
 one-line-more h p =
     let (qs, k, e, d) = exporting.counted p in
     omega (arith, e, ap lineCount (packs-all-one k h))
+
+-- lines and records left out, swapped
+pub counts-swapped : {start bytes : ℕ} {s before after : List ℕ} {rs : List Record} → PacksAll rs s → lineCount rs ≢ leftCount rs
+    → ExportPromise start s before (0 ∷ 0 ∷ bytes ∷ leftCount rs ∷ lineCount rs ∷ []) after → ⊥
+counts-swapped h n p =
+    let (qs, k, e, d) = exporting.counted p in
+    n (omega (arith, e, ap lineCount (packs-all-one k h)))
