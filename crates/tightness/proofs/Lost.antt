@@ -29,7 +29,7 @@ line-lost n a b (reading.no-room l s r e u) = let z : n ≡ 8 = cc in omega arit
 line-lost n a b (reading.refused {p = p} l r e u) = let z : 0 ≡ p = cc in omega (arith, refused-at r)
 
 -- write: 23 and 24 are given with a record, and what is written is counted behind the place
-stopped-number : {version start n p : ℕ} {s : List ℕ} → writing.WriteStopped version start s n p → 20 ≤ n
+pub stopped-number : {version start n p : ℕ} {s : List ℕ} → writing.WriteStopped version start s n p → 20 ≤ n
 stopped-number (writing.no-records w) = omega arith
 stopped-number (writing.no-version w v) = omega arith
 stopped-number (writing.late w v l) = omega arith
