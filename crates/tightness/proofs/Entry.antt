@@ -1,5 +1,5 @@
 -- Wrong answers of `read`, `write` and `export`: each is refuted over its promise.
-use Prim.Native.Nat.{ℕ, suc, _≤_}
+use Prim.Native.Nat.{ℕ, suc, _*_, _≤_, _<_}
 use mathlib.Core.Path.{_≡_, refl, ap}
 use mathlib.Core.Logic.{_≢_}
 use mathlib.Core.List.{List, [], _∷_, _++_}
@@ -15,23 +15,51 @@ use Rattle.fields.specs.Runs.{empty}
 use Rattle.row.specs.Row.{Row}
 use Rattle.row.specs.Versions.{is11, is12, versionText}
 use Rattle.row.proofs.Plain.{row-some}
+use Rattle.lines.specs.Lines.{lineLimit, FirstLine}
 use Rattle.lines.proofs.Theorems.{version-line-text, version-line-inside, startLine, start-line-text, start-line-inside}
-use Rattle.trace.specs.Trace.{Trace, Spells, over, traceOf}
-use Rattle.trace.specs.Promise.{ReadPromise}
+use Rattle.trace.specs.Trace.{sizeLimit, Trace, Spells, over, traceOf}
+use Rattle.trace.specs.Promise.{EndedLines, ReadPromise}
 use Rattle.trace.specs.House.{traceText, Writable}
-use Rattle.trace.proofs.Answers.{one-read, accepts, accepted}
+use Rattle.trace.proofs.Answers.{one-read, not-refused, accepted}
+use Rattle.trace.proofs.Beginnings.{spells-shorts, shorts-after, shorts-first}
 use Rattle.trace.proofs.Cuts.{endedLine, first-alone, lines-alone, lines-append}
 use Rattle.trace.proofs.Fails.{Fails, later, at-later, no-row, fails-refused}
 use Rattle.trace.proofs.One.{one-trace}
-use Rattle.trace.proofs.There.{there, there-size}
+use Rattle.trace.proofs.There.{there}
 use Rattle.trace_writer.specs.Promise.{WritePromise}
 use Rattle.trace_writer.proofs.Answers as writing
-use Rattle.ascii.specs.Promise.{lineCount, ExportPromise}
+use Rattle.ascii.specs.Promise.{lineCount, leftCount, ExportPromise}
 use Rattle.ascii.proofs.Answers as exporting
 use Rattle.tightness.specs.Tight.{received12}
 use Rattle.tightness.proofs.Tried.{received-formed, received-carried}
 
 -- read
+
+-- another first step back than that of the records which the text spells
+pub invents-step-back : {text before after : List ℕ} {t : Trace} {p v s n b : ℕ} → Spells t text → b ≢ stepBack (t .records)
+    → ReadPromise text before (0 ∷ p ∷ v ∷ s ∷ n ∷ b ∷ []) after → ⊥
+invents-step-back h d (ReadPromise.large l e q) = let z : _≡_ {A = ℕ} 0 1 = cc in omega arith
+invents-step-back h d (ReadPromise.done l u r e q) = d (cc (e, ap (λ (t : Trace). stepBack (t .records)) (one-trace u h)))
+invents-step-back h d (ReadPromise.no-room l u r e q) = let z : _≡_ {A = ℕ} 0 8 = cc in omega arith
+invents-step-back h d (ReadPromise.refused l f e q) = not-refused l h f
+
+-- another place than that of the first wrong line
+pub place-off : {text before after : List ℕ} {n m p q v s k b : ℕ} → length text ≤ sizeLimit → Fails text n p → q ≢ p
+    → ReadPromise text before (m ∷ q ∷ v ∷ s ∷ k ∷ b ∷ []) after → ⊥
+place-off h f d r = let e = one-read r (ReadPromise.refused h (fails-refused h f) refl refl) .0 in d (cc)
+
+-- no room, where there is room for twenty bytes a row
+pub room-refused : {text before after : List ℕ} {t : Trace} {p v s n b : ℕ} → Spells t text → 20 * length (t .records) ≤ length before
+    → ReadPromise text before (8 ∷ p ∷ v ∷ s ∷ n ∷ b ∷ []) after → ⊥
+room-refused h d (ReadPromise.large l e q) = let z : _≡_ {A = ℕ} 8 1 = cc in omega arith
+room-refused h d (ReadPromise.done l u r e q) = let z : _≡_ {A = ℕ} 8 0 = cc in omega arith
+room-refused h d (ReadPromise.no-room l u r e q) = omega (arith, ap (λ (t : Trace). length (t .records)) (one-trace u h))
+room-refused h d (ReadPromise.refused l f e q) = not-refused l h f
+
+-- a text with a line of more than 250 bytes, accepted
+pub long-line-taken : {text before after front rest line behind : List ℕ} {n p v s k b : ℕ} → EndedLines n front → text ≡ front ++ rest
+    → FirstLine line behind rest → lineLimit < length line → ReadPromise text before (0 ∷ p ∷ v ∷ s ∷ k ∷ b ∷ []) after → ⊥
+long-line-taken {rest = rest} ls e f h p = omega (arith, shorts-first f (shorts-after rest ls e (spells-shorts (accepted p .1))))
 
 -- offsets 3, 2 and 1: the first step back is row 2, and not the last, row 3
 abbrev pub falling : Trace
@@ -51,12 +79,7 @@ falling-writable = record {
 
 pub last-step-back : {before after : List ℕ} → ReadPromise (traceText falling) before (0 ∷ 0 ∷ 12 ∷ 0 ∷ 3 ∷ 3 ∷ []) after → ⊥
 unfolding backFrom stepBack
-last-step-back p =
-    let (t, s, r) = accepted p in
-    let h = there falling-writable in
-    let e = accepts (there-size falling-writable) h (rw (one-trace s h) at r) p .0 in
-    let z : _≡_ {A = ℕ} 3 2 = cc in
-    omega arith
+last-step-back = invents-step-back (there falling-writable) (λ e. omega arith)
 
 -- `;$FILEVERSION=1.1`, `;$STARTTIME=0.0` and an empty line: 7 at line 3, and not at line 4
 abbrev header : List ℕ
@@ -95,11 +118,7 @@ fails-third = record {
 }
 
 pub place-one-more : {before after : List ℕ} → ReadPromise emptyThird before (7 ∷ 4 ∷ 0 ∷ 0 ∷ 0 ∷ 0 ∷ []) after → ⊥
-place-one-more p =
-    let h : length emptyThird ≤ 134217728 = omega arith in
-    let e = one-read p (ReadPromise.refused h (fails-refused h fails-third) refl refl) .0 in
-    let z : _≡_ {A = ℕ} 4 3 = cc in
-    omega arith
+place-one-more = place-off (omega arith) fails-third (λ e. omega arith)
 
 -- write
 
@@ -119,3 +138,10 @@ pub one-line-more : {start bytes left : ℕ} {s before after : List ℕ} {rs : L
 one-line-more h p =
     let (qs, k, e, d) = exporting.counted p in
     omega (arith, e, ap lineCount (packs-all-one k h))
+
+-- lines and records left out, swapped
+pub counts-swapped : {start bytes : ℕ} {s before after : List ℕ} {rs : List Record} → PacksAll rs s → lineCount rs ≢ leftCount rs
+    → ExportPromise start s before (0 ∷ 0 ∷ bytes ∷ leftCount rs ∷ lineCount rs ∷ []) after → ⊥
+counts-swapped h n p =
+    let (qs, k, e, d) = exporting.counted p in
+    n (omega (arith, e, ap lineCount (packs-all-one k h)))

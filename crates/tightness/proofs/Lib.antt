@@ -8,8 +8,10 @@ pub mod Readers
 pub mod Real
 pub mod Refusals
 pub mod Refuted
+pub mod Rows
 pub mod Same
 pub mod Single
 pub mod Texts
 pub mod Tried
 pub mod Writers
+pub mod Writing

@@ -1,11 +1,14 @@
--- Answers in which the line or the record is lost: each is refuted over the promise, for every input. The boundary to C promises the same numbers.
+-- Answers in which the line or the record is lost, or one is given where there is none: each is refuted over the promise, for every input. The
+-- boundary to C promises the same numbers.
 use Prim.Native.Nat.{ℕ, suc, _≤_}
 use mathlib.Core.Path.{_≡_}
 use mathlib.Core.List.{List, [], _∷_}
 use native.Mathlib.Omega.{arith}
+use Rattle.record.specs.declared.Record.{Record}
 use Rattle.record.specs.Promise as single
 use Rattle.trace.specs.Promise as reading
 use Rattle.trace_writer.specs.Promise as writing
+use Rattle.ascii.specs.Promise as exporting
 
 -- read: 2 to 7 are given with a line
 refused-at : {text : List ℕ} {n p : ℕ} → reading.RefusedAtLine text n p → 1 ≤ p
@@ -26,7 +29,7 @@ line-lost n a b (reading.no-room l s r e u) = let z : n ≡ 8 = cc in omega arit
 line-lost n a b (reading.refused {p = p} l r e u) = let z : 0 ≡ p = cc in omega (arith, refused-at r)
 
 -- write: 23 and 24 are given with a record, and what is written is counted behind the place
-stopped-number : {version start n p : ℕ} {s : List ℕ} → writing.WriteStopped version start s n p → 20 ≤ n
+pub stopped-number : {version start n p : ℕ} {s : List ℕ} → writing.WriteStopped version start s n p → 20 ≤ n
 stopped-number (writing.no-records w) = omega arith
 stopped-number (writing.no-version w v) = omega arith
 stopped-number (writing.late w v l) = omega arith
@@ -51,6 +54,25 @@ pub bytes-as-place : {version start bytes n : ℕ} {s before after : List ℕ} �
 bytes-as-place (writing.refused {n = m} t e u) = let z : 0 ≡ m = cc in omega (arith, stopped-number t)
 bytes-as-place (writing.no-room w s r e u) = let z : _≡_ {A = ℕ} 0 25 = cc in omega arith
 bytes-as-place {bytes = bytes} (writing.done w s r e u) = let z : suc bytes ≡ 0 = cc in omega arith
+
+-- export: 23 is given with a record
+exported-at : {start n p : ℕ} {s : List ℕ} → exporting.ExportStopped start s n p → 23 ≤ n → 1 ≤ p
+exported-at (exporting.no-records w) h = absurd (omega arith)
+exported-at (exporting.late w l) h = absurd (omega arith)
+exported-at (exporting.malformed w l f) h = omega (arith, f .at)
+
+pub export-record-lost : {start bytes lines left : ℕ} {s before after : List ℕ}
+    → exporting.ExportPromise start s before (23 ∷ 0 ∷ bytes ∷ lines ∷ left ∷ []) after → ⊥
+export-record-lost (exporting.refused {n = n} {p = p} t e u) =
+    let y : 23 ≡ n = cc in let z : 0 ≡ p = cc in omega (arith, exported-at t (omega arith))
+export-record-lost (exporting.no-room g l e u) = let z : _≡_ {A = ℕ} 23 25 = cc in omega arith
+export-record-lost (exporting.done g l e u) = let z : _≡_ {A = ℕ} 23 0 = cc in omega arith
+
+-- pack: 25 is given with place 0
+pub short-at-a-place : {r : Record} {place : ℕ} {before after : List ℕ} → single.PackPromise r before (25 ∷ suc place ∷ []) after → ⊥
+short-at-a-place (single.done p n e u) = let z : _≡_ {A = ℕ} 25 0 = cc in omega arith
+short-at-a-place (single.malformed f e u) = let z : _≡_ {A = ℕ} 25 23 = cc in omega arith
+short-at-a-place {place = place} (single.short f n e u) = let z : suc place ≡ 0 = cc in omega arith
 
 -- unpack: 23 is given with record 1
 pub single-lost : {s : List ℕ} → single.UnpackPromise s (single.refusalNumbers 23 0) → ⊥

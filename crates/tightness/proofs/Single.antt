@@ -1,5 +1,5 @@
 -- Wrong answers of single functions: each is refuted over the relation that the function promises.
-use Prim.Native.Nat.{ℕ, _%_}
+use Prim.Native.Nat.{ℕ, _+_, _*_, _%_, _<_}
 use mathlib.Core.Path.{_≡_, refl, ap, _∙_}
 use mathlib.Core.Logic.{_≢_, _⊎_, inl, inr}
 use mathlib.Core.List.{List, [], _∷_, _++_}
@@ -19,9 +19,10 @@ use Rattle.record.specs.Promise.{UnpackPromise, fields, not-twenty, malformed, 
 use Rattle.record.proofs.Bytes.{length-bytes}
 use Rattle.fields.specs.declared.Scan.{Scan}
 use Rattle.fields.specs.Runs.{All, empty, more as and, Stops, halt}
-use Rattle.fields.specs.Columns.{BusField, LengthField, remoteText, typeTx, Capital}
+use Rattle.fields.specs.Columns.{NumberField, OffsetField, BusField, LengthField, remoteText, typeTx, Capital}
 use Rattle.fields.specs.inner.Window.{Solid, FieldAt, Takes, taken, not, HexField, TypeField, rx, tx, warng, error}
 use Rattle.fields.proofs.Window.{field-one}
+use Rattle.fields.proofs.Columns.{number-one, offset-one}
 use Rattle.row.specs.Versions.{Version, is11, is12, versionText}
 use Rattle.row.proofs.EachVersion.{version-low}
 use Rattle.lines.specs.Lines.{Blanks, VersionLine, Comment}
@@ -135,6 +136,22 @@ length-0-as-8 p = omega (arith, differ (p .spelled))
 pub byte-of-two : {w f rest : List ℕ} {at : ℕ} {s : Scan} → FieldAt f rest (drop at w) → length f ≢ 2 → Takes (Hex 2) w at s → s .end ≡ 0
 byte-of-two a n (taken b e h) = absurd (n (ap length (field-one a b .0) ∙ h .width))
 byte-of-two a n (not e f) = e
+
+-- The field that stands there is read as its own value.
+takes-one : {P : ℕ → List ℕ → Type 0} {w f rest : List ℕ} {at v : ℕ} {s : Scan} → ((a b : ℕ) (g : List ℕ) → P a g → P b g → a ≡ b)
+    → FieldAt f rest (drop at w) → P v f → Takes P w at s → s .value ≡ v
+takes-one u a p (taken b e h) = u _ _ _ (rw (← (field-one a b .0)) at h) p
+takes-one u a p (not e f) = absurd (f _ _ a _ p)
+
+-- another row number than the field's
+pub another-number : {w f rest : List ℕ} {at k : ℕ} {s : Scan} → FieldAt f rest (drop at w) → NumberField k f → Takes NumberField w at s
+    → s .value ≢ k → ⊥
+another-number a p t n = n (takes-one (λ x y g q r. number-one q r) a p t)
+
+-- one digit behind the point as ten microseconds each
+pub tenths-as-ten-microseconds : {w f rest : List ℕ} {at offset : ℕ} {s : Scan} → FieldAt f rest (drop at w) → (o : OffsetField 1 offset f)
+    → 0 < o .fraction → Takes (OffsetField 1) w at s → s .value ≡ o .ms * 1000 + o .fraction * 10 → ⊥
+tenths-as-ten-microseconds a o h t e = omega (arith, takes-one (λ x y g q r. offset-one q r) a o t, o .value)
 
 -- `rtr`, and `RTR` with a byte behind it
 pub small-rtr : 114 ∷ 116 ∷ 114 ∷ [] ≡ remoteText → ⊥
