@@ -16,6 +16,7 @@ use Rattle.record.specs.declared.Record.{Record}
 use Rattle.record.specs.Promise.{fieldsOf}
 use Rattle.record.proofs.Promises.{same-fields}
 use Rattle.row.specs.Row
+use Rattle.row.specs.inner.Ids.{FormOf}
 use Rattle.row.proofs.EachVersion.{digits-tell}
 use Rattle.row.proofs.Columns.{AfterType, received, sent, warned, failed, type-of}
 
@@ -119,3 +120,15 @@ version-only a b = go (rw (parted-one (a .parted) (b .parted)) at (a .row)) (b .
   where
     go : {v u k j : ℕ} {r q : Record} {fs : List (List ℕ)} → Row.RowFields v k r fs → Row.RowFields u j q fs → v ≡ u
     go (Row.number n (Row.offset x o b)) (Row.number m (Row.offset y p c)) = digits-tell x y (width-one o p)
+
+-- An ID has one form, or none.
+pub form-one : {id width x y : ℕ} → FormOf id width x → FormOf id width y → x ≡ y
+form-one (FormOf.standard a b e) (FormOf.standard c d f) = e ∙ sym f
+form-one (FormOf.standard a b e) (FormOf.long c d f) = absurd (omega arith)
+form-one (FormOf.standard a b e) (FormOf.neither c d f) = absurd (c a b)
+form-one (FormOf.long a b e) (FormOf.standard c d f) = absurd (omega arith)
+form-one (FormOf.long a b e) (FormOf.long c d f) = e ∙ sym f
+form-one (FormOf.long a b e) (FormOf.neither c d f) = absurd (d a b)
+form-one (FormOf.neither a b e) (FormOf.standard c d f) = absurd (a c d)
+form-one (FormOf.neither a b e) (FormOf.long c d f) = absurd (b c d)
+form-one (FormOf.neither a b e) (FormOf.neither c d f) = e ∙ sym f
