@@ -1,4 +1,6 @@
 pub mod Answers
+pub mod Begun
 pub mod Fields
+pub mod Refused
 pub mod Theorems
 pub mod Windows

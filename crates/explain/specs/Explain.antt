@@ -1,5 +1,5 @@
 -- What is wrong with a line that is no row: a field, or that it ended early. Fields are the line's runs of non-blank bytes (`Parted`), and no length
--- of a line counts. In words: docs/FORMAT.md, section 12.
+-- of a line counts. In words: docs/FORMAT.md, section 14.
 use Prim.Native.Nat.{ℕ, _-_, _≤_}
 use mathlib.Core.Path.{_≡_}
 use mathlib.Core.List.{List, _++_}

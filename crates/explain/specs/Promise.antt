@@ -1,4 +1,4 @@
--- What `explain` promises for every line, version and number. In words: docs/FORMAT.md, section 12.
+-- What `explain` promises for every line, version and number. In words: docs/FORMAT.md, section 14.
 use Prim.Native.Nat.{ℕ}
 use mathlib.Core.Path.{_≡_}
 use mathlib.Core.List.{List, [], _∷_}

@@ -50,6 +50,14 @@ module _ {P : ℕ → Type 0} where
     pub run-one : {f : List ℕ} (t : List ℕ) → All P f → Stops P t → drop i s ≡ f ++ t → (f ≡ slice i e s) × (t ≡ drop e s)
     run-one t a h b = cut a (r .all) h (r .stops) (sym b ∙ split)
 
+    -- It ends at one place.
+    pub ran-one : {d : ℕ} → Ran P s i d → d ≡ e
+    ran-one {d} q =
+        let a = r .within in
+        let b = q .within in
+        let x = run-one (drop d s) (q .all) (q .stops) (slice-drop i d s (q .from) (q .within)) in
+        omega (arith, ap length (x .1), length-drop d s, length-drop e s)
+
     -- It goes to the end exactly if every byte has P.
     pub to-end : e ≡ length s → All P (drop i s)
     to-end h =

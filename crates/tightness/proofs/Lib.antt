@@ -1,4 +1,5 @@
 pub mod Entry
+pub mod Explaining
 pub mod Exporters
 pub mod Lines
 pub mod Whole

@@ -1,0 +1,86 @@
+-- It explains what the reader refused: the line of a text that `read` refuses with 7 is explained, and not refused, where the next row number is one.
+use Prim.Native.Nat.{ℕ, _+_, _≤_, _<_}
+use mathlib.Core.Path.{_≡_, refl, ap, sym, _∙_}
+use mathlib.Core.List.{List, [], _∷_, _++_}
+use native.Mathlib.Omega.{arith}
+use lib.ListN.{length, getD}
+use Rattle.record.specs.declared.Record.{Record}
+use Rattle.fields.specs.Columns.{lastNumber}
+use Rattle.fields.specs.Runs.{All}
+use Rattle.row.specs.Row.{Row}
+use Rattle.row.specs.Versions.{Version}
+use Rattle.lines.specs.Lines.{Inside, Comment}
+use Rattle.trace.specs.declared.Outcome.the-variants as outcome
+use Rattle.trace.specs.Trace.{sizeLimit, Trace, Line, Spells}
+use Rattle.trace.specs.Promise.{EndedLines, ReadPromise, readNumbers, large, done, no-room, refused}
+use Rattle.trace.proofs.Exactly.{refused-fails}
+use Rattle.trace.proofs.Fails.{Stage, later, RightSoFar, at-later, WrongNext, no-row, Fails}
+use Rattle.explain.specs.declared.Explained.{Explained}
+use Rattle.explain.specs.declared.Explained.the-variants as explained
+use Rattle.explain.specs.Explain.{Unexplained, no-number, no-line, row, comment}
+use Rattle.explain.specs.Promise.{ExplainPromise, no-version, unexplained, wrong, early}
+
+-- What is explained is no refusal, and what is not to be explained is one.
+pub not-refused : {line a : List ℕ} {v k : ℕ} → Version v → (Unexplained v k line → ⊥) → ExplainPromise line v k a → getD a 0 0 ≡ 0
+not-refused v n (no-version u e) = absurd (u v)
+not-refused v n (unexplained u x e) = absurd (n x)
+not-refused v n (wrong u x w e) = ap (λ (l : List ℕ). getD l 0 0) e
+not-refused v n (early u x w e) = ap (λ (l : List ℕ). getD l 0 0) e
+
+pub refused-30 : {line a : List ℕ} {v k : ℕ} → Version v → Unexplained v k line → ExplainPromise line v k a → getD a 0 0 ≡ 30
+refused-30 v x (no-version u e) = absurd (u v)
+refused-30 v x (unexplained u y e) = ap (λ (l : List ℕ). getD l 0 0) e
+refused-30 v x (wrong u n w e) = absurd (n x)
+refused-30 v x (early u n w e) = absurd (n x)
+
+-- The line at this place, and the lines before it, which spell a trace: its version, and as many rows as it has records, stand before the line.
+pub record RefusedRow (text : List ℕ) (place : ℕ) : Type 0 where
+  pub n : ℕ
+  pub at : place ≡ n + 1
+  pub front : List ℕ
+  pub line : List ℕ
+  pub rest : List ℕ
+  pub whole : text ≡ front ++ (line ++ (13 ∷ 10 ∷ rest))
+  pub before : EndedLines n front
+  pub trace : Trace
+  pub spelled : Spells trace front
+  -- the line is explained, unless the last row number stands before it
+  pub explains : (a : List ℕ) → length (trace .records) < lastNumber → ExplainPromise line (trace .version) (1 + length (trace .records)) a
+      → getD a 0 0 ≡ 0
+  -- behind that no line can be a row
+  pub full : (a : List ℕ) → lastNumber ≤ length (trace .records) → ExplainPromise line (trace .version) (1 + length (trace .records)) a
+      → getD a 0 0 ≡ 30
+
+row-refused : {text : List ℕ} {place : ℕ} → Fails text 7 place → RefusedRow text place
+row-refused f = go (f .stands) (f .stopped) (f .whole) (f .at)
+  where
+    go : {text front rest : List ℕ} {n place : ℕ} {g : Stage} → RightSoFar n front g → WrongNext g rest 7 → text ≡ front ++ rest → place ≡ n + 1 → RefusedRow text place
+    go {front = front} {n = n} (at-later {t = t} m ls a) (no-row {line = line} {after = after} l c d r) e p = record {
+      n = n;
+      at = p;
+      front = front;
+      line = line;
+      rest = after;
+      whole = e ∙ ap (λ (s : List ℕ). front ++ s) (l .first .ended);
+      before = ls;
+      trace = t;
+      spelled = a;
+      explains = λ x h q. not-refused (a .version .is) (no h) q;
+      full = λ x h q. refused-30 (a .version .is) (no-number (λ u w. omega arith)) q;
+    }
+      where
+        no : length (t .records) < lastNumber → Unexplained (t .version) (1 + length (t .records)) line → ⊥
+        no h (no-number u) = u (omega arith) (omega arith)
+        no h (no-line u) = u (l .first .inside)
+        no h (row w) = r _ w
+        no h (comment x) = c x
+
+pub explains-refused : {text out a after : List ℕ} {place : ℕ} → ReadPromise text out a after → a ≡ readNumbers (outcome.Refused 7 place)
+    → RefusedRow text place
+explains-refused (large h e q) d = let z : _≡_ {A = ℕ} 1 7 = cc (e, d) in absurd (omega arith)
+explains-refused (done h s r e q) d = let z : _≡_ {A = ℕ} 0 7 = cc (e, d) in absurd (omega arith)
+explains-refused (no-room h s r e q) d = let z : _≡_ {A = ℕ} 8 7 = cc (e, d) in absurd (omega arith)
+explains-refused {place = place} (refused {n = n} {p = p} h f e q) d =
+    let x : n ≡ 7 = cc (e, d) in
+    let y : p ≡ place = cc (e, d) in
+    rw (← y) (row-refused (rw x at (refused-fails h f)))
