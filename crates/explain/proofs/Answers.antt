@@ -12,9 +12,9 @@ use Rattle.record.specs.declared.Record.{Record}
 use Rattle.fields.specs.Parted.{NoBlank}
 use Rattle.lines.specs.Lines.{Inside, Comment}
 use Rattle.fields.specs.Runs.{All}
-use Rattle.lines.specs.inner.Parts.{Between, IsBlank, Ran}
+use Rattle.lines.specs.inner.Parts.{Between, Ran}
 use Rattle.lines.proofs.Scans.{blanks-ran}
-use Rattle.row.specs.Row.{RowFields, Row}
+use Rattle.row.specs.Row.{RowFields}
 use Rattle.row.specs.Versions.{Version}
 use Rattle.row.specs.declared.Part.{Part}
 use Rattle.row.specs.declared.Step.{Step}
@@ -24,7 +24,7 @@ use Rattle.row.proofs.Open.{opens}
 use Rattle.fields.specs.Columns.{lastNumber}
 use Rattle.explain.specs.declared.Explained.{Explained}
 use Rattle.explain.specs.declared.Explained.the-variants as explained
-use Rattle.explain.specs.Explain.{WrongField, EndedEarly, Unexplained, no-number, no-line, row, comment}
+use Rattle.explain.specs.Explain.{Unexplained, no-number, no-line, row, comment}
 use Rattle.explain.specs.Promise.{ExplainPromise, explainNumbers, unexplained}
 use Rattle.explain.specs.Promise.{wrong as promise-wrong, early as promise-early}
 use Rattle.explain.specs.inner.Steps.{Moves, moved, stuck, Reached, FoundIn}

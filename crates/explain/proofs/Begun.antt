@@ -1,7 +1,7 @@
 -- "Some row begins with these fields" is said of a row's fields (`BeginsRow`), and holds of lines: some line is a row, and its first fields are these.
 -- The further fields may be taken without empty words, which no line has, and with one blank between two.
 use Prim.Native.Nat.{ℕ, zero, suc, _+_, _-_, _<_}
-use mathlib.Core.Path.{_≡_, refl, ap, sym}
+use mathlib.Core.Path.{_≡_, refl}
 use mathlib.Core.Bool.{Bool}
 use mathlib.Core.List.{List, [], _∷_, _++_}
 use native.Mathlib.Omega.{arith}

@@ -1,17 +1,17 @@
 -- From field to field: what a gap and a field make of what was reached, and the answers at a field that no row goes on with and at the line's end.
-use Prim.Native.Nat.{ℕ, suc, _+_, _-_, _≤_, _<_}
+use Prim.Native.Nat.{ℕ, _+_, _-_, _≤_, _<_}
 use mathlib.Core.Path.{_≡_, refl, ap, sym, _∙_}
 use mathlib.Core.Logic.{_≢_}
 use mathlib.Core.List.{List, [], _∷_, _++_, append-assoc, append-nil}
 use native.Mathlib.Omega.{arith}
 use native.Mathlib.Decide.{ℕ-discrete}
-use lib.ListN.{length, getD, take, drop, length-append, take-append-drop, drop-of-length-le}
-use lib.Seq.{slice, slice-empty, drop-cons, length-slice, take-at}
+use lib.ListN.{length, take, drop, length-append, take-append-drop, drop-of-length-le}
+use lib.Seq.{slice, drop-cons, length-slice, take-at}
 use Rattle.record.specs.declared.Record.{Record}
 use Rattle.fields.specs.Parted.{NoBlank, Parted, none, blank-first, field}
 use Rattle.fields.specs.Runs.{All, empty, more, Stops, over, halt}
 use Rattle.fields.specs.inner.Window.{Solid}
-use Rattle.fields.proofs.Parts.{blanks, first, only-none}
+use Rattle.fields.proofs.Parts.{blanks, first}
 use Rattle.fields.proofs.Runs.{all-left, all-right}
 use Rattle.lines.specs.Lines.{Inside}
 use Rattle.lines.specs.inner.Parts.{IsBlank, Ran}

@@ -1,21 +1,16 @@
 -- It explains what the reader refused: the line of a text that `read` refuses with 7 is explained, and not refused, where the next row number is one.
 use Prim.Native.Nat.{ℕ, _+_, _≤_, _<_}
-use mathlib.Core.Path.{_≡_, refl, ap, sym, _∙_}
-use mathlib.Core.List.{List, [], _∷_, _++_}
+use mathlib.Core.Path.{_≡_, ap, _∙_}
+use mathlib.Core.List.{List, _∷_, _++_}
 use native.Mathlib.Omega.{arith}
 use lib.ListN.{length, getD}
-use Rattle.record.specs.declared.Record.{Record}
 use Rattle.fields.specs.Columns.{lastNumber}
-use Rattle.fields.specs.Runs.{All}
-use Rattle.row.specs.Row.{Row}
 use Rattle.row.specs.Versions.{Version}
-use Rattle.lines.specs.Lines.{Inside, Comment}
 use Rattle.trace.specs.declared.Outcome.the-variants as outcome
-use Rattle.trace.specs.Trace.{sizeLimit, Trace, Line, Spells}
+use Rattle.trace.specs.Trace.{Trace, Spells}
 use Rattle.trace.specs.Promise.{EndedLines, ReadPromise, readNumbers, large, done, no-room, refused}
 use Rattle.trace.proofs.Exactly.{refused-fails}
-use Rattle.trace.proofs.Fails.{Stage, later, RightSoFar, at-later, WrongNext, no-row, Fails}
-use Rattle.explain.specs.declared.Explained.{Explained}
+use Rattle.trace.proofs.Fails.{Stage, RightSoFar, at-later, WrongNext, no-row, Fails}
 use Rattle.explain.specs.declared.Explained.the-variants as explained
 use Rattle.explain.specs.Explain.{Unexplained, no-number, no-line, row, comment}
 use Rattle.explain.specs.Promise.{ExplainPromise, no-version, unexplained, wrong, early}

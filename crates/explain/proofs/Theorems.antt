@@ -1,14 +1,12 @@
 -- The promise leaves one answer only, and what it says of a line is the same whatever its fields are called.
-use Prim.Native.Nat.{ℕ, suc, _+_, _-_, _≤_, _<_}
-use mathlib.Core.Path.{_≡_, refl, ap, sym, _∙_}
-use mathlib.Core.Logic.{_≢_, _⊎_, inl, inr}
-use mathlib.Core.List.{List, [], _∷_, _++_, append-assoc, append-nil}
+use Prim.Native.Nat.{ℕ, _+_, _-_, _≤_, _<_}
+use mathlib.Core.Path.{_≡_, ap, sym, _∙_}
+use mathlib.Core.List.{List, [], _++_, append-assoc, append-nil}
 use native.Mathlib.Omega.{arith}
-use native.Mathlib.Decide.{decLt, ℕ-discrete}
+use native.Mathlib.Decide.{decLt}
 use lib.ListN.{length, take, drop, take-append-drop}
-use lib.Seq.{take-take, take-length}
+use lib.Seq.{take-take}
 use Rattle.record.specs.declared.Record.{Record}
-use Rattle.fields.specs.Parted.{Parted}
 use Rattle.fields.proofs.Parts.{parted-one}
 use Rattle.row.specs.Row.{RowFields, Row}
 use Rattle.explain.specs.declared.Explained.{Explained}

@@ -1,22 +1,22 @@
 -- A field in a window of its own steps the state as it would anywhere; a long word steps it as its first bytes do.
-use Prim.Native.Nat.{ℕ, _+_, _≤_, _<_}
-use mathlib.Core.Path.{_≡_, refl, sym, _∙_}
+use Prim.Native.Nat.{ℕ, _+_, _≤_}
+use mathlib.Core.Path.{_≡_, refl}
 use mathlib.Core.Logic.{_≢_}
-use mathlib.Core.List.{List, [], _∷_, _++_}
+use mathlib.Core.List.{List, _∷_, _++_}
 use native.Mathlib.Omega.{arith}
-use lib.ListN.{length, take, drop, getD, take-append-drop, List·getD-append}
+use lib.ListN.{length, take, drop, take-append-drop, List·getD-append}
 use lib.Seq.{length-take-le}
 use Rattle.record.specs.declared.Record.{Record}
 use Rattle.fields.specs.Columns.{Capital}
-use Rattle.fields.specs.Runs.{All, Stops, halt}
-use Rattle.fields.specs.inner.Window.{NoEnd, Solid, LineBeforeCr, Lined, FieldAt, Starts}
+use Rattle.fields.specs.Runs.{All, halt}
+use Rattle.fields.specs.inner.Window.{FieldAt, Starts}
 use Rattle.fields.proofs.Runs.{all-at, all-map, all-left}
 use Rattle.fields.proofs.Window.{field-one}
 use Rattle.lines.specs.inner.Parts.{Between, Ran}
 use Rattle.lines.proofs.Scans.{to-end, not-end}
 use Rattle.row.specs.declared.Part.{Part}
 use Rattle.row.specs.declared.Step.{Step}
-use Rattle.row.specs.inner.Stages.{Steps, Continues, Good}
+use Rattle.row.specs.inner.Stages.{Steps, Continues}
 use Rattle.row.specs.inner.Stages.{moved as steps-moved, stuck as steps-stuck}
 use Rattle.row.proofs.Long.{long-field}
 use Rattle.explain.specs.inner.Steps.{Field, Moves, moved, stuck}

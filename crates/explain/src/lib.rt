@@ -14,7 +14,6 @@ use row_reader::window;
 use stages::complete;
 use stages::take_field;
 use stages::take_number;
-ghost use mathlib.Core.Path.{_≡_};
 ghost use Prim.Native.Nat.{ℕ, _≤_, _<_};
 ghost use lib.ListN.{length};
 ghost use Rattle.base.specs.inner.Decides.{Decides};
@@ -32,6 +31,9 @@ ghost use Rattle.explain.specs.inner.Steps.{Field, Moves, Reached, Found
 
 // The most bytes of a field that is no word.
 const LONGEST: usize = 15;
+
+// So many bytes are a word, if they are anything.
+const WORD: usize = 16;
 
 // What is wrong with a line.
 pub enum Explained {
@@ -91,7 +93,7 @@ fn step(f: &[u8], p: Part, w: &mut [u8; WINDOW]) -> Step
     if run_end(f, 0, b'A', b'Z') != f.len() {
         return Step { at: 0, part: p };
     }
-    window(&f[..16], w);
+    window(&f[..WORD], w);
     take_field(w, 0, p)
 }
 

@@ -1,13 +1,12 @@
 -- A field of sixteen bytes or more is a warning's word, and any other word would do in its place.
-use Prim.Native.Nat.{ℕ, _+_, _≤_}
-use mathlib.Core.Path.{_≡_, ap, _∙_}
-use mathlib.Core.Bool.{true}
-use mathlib.Core.List.{List, [], _∷_, _++_}
+use Prim.Native.Nat.{ℕ, _≤_}
+use mathlib.Core.Path.{ap, _∙_}
+use mathlib.Core.List.{List, [], _∷_}
 use native.Mathlib.Omega.{arith}
 use lib.ListN.{length, length-append}
 use Rattle.digits.specs.Digits.{Hex}
 use Rattle.digits.proofs.Theorems.{decimal-few}
-use Rattle.fields.specs.Columns.{NumberField, OffsetField, BusField, IdField, standard, long, LengthField, Capital, remoteText}
+use Rattle.fields.specs.Columns.{NumberField, OffsetField, BusField, IdField, standard, long, LengthField, Capital}
 use Rattle.fields.specs.Runs.{All}
 use Rattle.record.specs.declared.Record.{Record}
 use Rattle.row.specs.declared.Part.{Part}

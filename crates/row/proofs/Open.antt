@@ -2,11 +2,11 @@
 use Prim.Native.Nat.{ℕ, zero, suc, _+_, _*_, _/_, _^_, _≤_}
 use native.Mathlib.Nat.{add-zero}
 use mathlib.Core.Path.{_≡_, refl, sym}
-use mathlib.Core.Bool.{true, false}
-use mathlib.Core.List.{List, [], _∷_, _++_}
+use mathlib.Core.Bool.{true}
+use mathlib.Core.List.{List, [], _∷_}
 use native.Mathlib.Omega.{arith}
 use Rattle.digits.specs.declared.Letters.the-variants.{Capital}
-use Rattle.digits.specs.House.{figureOf, decimalText, paddedText, hexText}
+use Rattle.digits.specs.House.{figureOf, hexText}
 use Rattle.digits.proofs.House.{decimal-spells}
 use Rattle.digits.proofs.Theorems.{hex-spells}
 use Rattle.fields.specs.Columns.{lastNumber, typeRx, remoteText}

@@ -8,7 +8,7 @@ use native.Mathlib.Omega.{arith}
 use lib.ListN.{length, getD, take, length-append}
 use lib.Seq.{take-at}
 use Rattle.digits.specs.Digits.{DecimalDigit, Digits, more}
-use Rattle.fields.specs.Columns.{BusField, Capital, typeRx}
+use Rattle.fields.specs.Columns.{Capital, typeRx}
 use Rattle.fields.specs.Parted.{Parted}
 use Rattle.fields.specs.Runs.{All}
 use Rattle.record.specs.declared.Record.{Record}

@@ -1,5 +1,4 @@
 -- `explain::explain` refuses what is not to be explained, and explains the rest.
-use Prim.Native.Nat.{_≤_}
 use mathlib.Core.Path.{refl}
 use native.Mathlib.Omega.{arith}
 use borrow.Author.Needs.{needs}

@@ -1,7 +1,6 @@
 -- `explain::explain_fields` goes from field to field, behind the first.
-use Prim.Native.Nat.{_+_, _-_, _≤_, _<_}
+use Prim.Native.Nat.{_-_}
 use native.Mathlib.Omega.{arith}
-use borrow.Author.Needs.{needs}
 use lib.ListN.{length}
 use Rattle.lines.proofs.Scans.{blanks-ran, part}
 use Rattle.explain.proofs.Fields.{later, lent}

@@ -1,5 +1,4 @@
 -- `explain::explain_row` takes the row number, and goes on behind it.
-use Prim.Native.Nat.{_≤_}
 use native.Mathlib.Omega.{arith}
 use borrow.Author.Needs.{needs}
 use lib.Seq.{length-slice}

@@ -1,5 +1,5 @@
 -- What the functions of the explainer promise each other. No public promise cites this file.
-use Prim.Native.Nat.{ℕ, _<_, _≤_}
+use Prim.Native.Nat.{ℕ, _<_}
 use mathlib.Core.Path.{_≡_}
 use mathlib.Core.Logic.{_≢_}
 use mathlib.Core.List.{List, _∷_, _++_}
@@ -8,7 +8,6 @@ use Rattle.record.specs.declared.Record.{Record}
 use Rattle.fields.specs.Parted.{Parted}
 use Rattle.fields.specs.Runs.{All}
 use Rattle.fields.specs.inner.Window.{Solid}
-use Rattle.row.specs.declared.Part.{Part}
 use Rattle.row.specs.declared.Step.{Step}
 use Rattle.row.specs.Row.{RowFields, Row}
 use Rattle.row.specs.inner.Stages.{Continues, Good}
