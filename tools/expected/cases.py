@@ -1,8 +1,8 @@
 #!/usr/bin/env python3
-"""The output that cases must give: reads the cases in its file stdin, judges each by paper 01, and sees that the cases which the paper names are among
-them, with answers that were taken from it by hand."""
+"""The output that cases must give: reads the cases in its file stdin, judges each by the papers, and sees that the cases which they name are among them,
+with answers that were taken from them by hand."""
 import sys
-import ascii_lines, clock, digits, inputs, records, rows, traces
+import ascii_lines, clock, digits, explain, inputs, records, rows, traces
 from template import fill, plain, shown
 
 def value(word):
@@ -32,6 +32,10 @@ def again(text, room):
 def row(text, version, number):
     r = rows.row(version, number, text)
     return fields(r) if r else 'none'
+
+# Explaining
+
+def explained(text, version, number): return numbers(explain.explain(text, version, number))
 
 # One record, and one row
 
@@ -110,6 +114,7 @@ ARMS = {
     'hex': (0, lambda text: found(digits.hexadecimal(text))), 'digits': (2, spelled),
     'start': (1, lambda text, days: str(clock.start(days, text))), 'fraction': (1, fraction),
     'date': (1, lambda text, days: numbers(clock.day(days))), 'stamp': (2, lambda text, start, offset: numbers(clock.stamp(start, offset))),
+    'explain': (2, explained), 'begin': (3, lambda text, version, number, count: explained(text[:count], version, number)),
     'convert': (2, converted), 'long': (1, long), 'noise': (3, noise),
 }
 
