@@ -6,8 +6,10 @@ import ascii_lines, clock, digits, explain, inputs, records, rows, traces
 from template import fill, plain, shown
 
 def value(word):
-    """a number in decimal, or behind an x in hexadecimal"""
-    return int(word[1:] or '0', 16) if word[0] == 'x' else int(word)
+    """a number in decimal, or behind an x in hexadecimal; the program takes one of more digits for 0"""
+    base, figures, most = (16, word[1:] or '0', 16) if word[0] == 'x' else (10, word, 19)
+    assert len(figures) <= most, word
+    return int(figures, base)
 
 def numbers(words): return ' '.join(map(str, words))
 
