@@ -1,13 +1,15 @@
 #!/usr/bin/env python3
-"""The output that cases must give: reads the cases in its file stdin, judges each by paper 01, and sees that the cases which the paper names are among
-them, with answers that were taken from it by hand."""
+"""The output that cases must give: reads the cases in its file stdin, judges each by the papers, and sees that the cases which they name are among them,
+with answers that were taken from them by hand."""
 import sys
-import ascii_lines, clock, digits, inputs, records, rows, traces
+import ascii_lines, clock, digits, explain, inputs, records, rows, traces
 from template import fill, plain, shown
 
 def value(word):
-    """a number in decimal, or behind an x in hexadecimal"""
-    return int(word[1:] or '0', 16) if word[0] == 'x' else int(word)
+    """a number in decimal, or behind an x in hexadecimal; the program takes one of more digits for 0"""
+    base, figures, most = (16, word[1:] or '0', 16) if word[0] == 'x' else (10, word, 19)
+    assert len(figures) <= most, word
+    return int(figures, base)
 
 def numbers(words): return ' '.join(map(str, words))
 
@@ -32,6 +34,10 @@ def again(text, room):
 def row(text, version, number):
     r = rows.row(version, number, text)
     return fields(r) if r else 'none'
+
+# Explaining
+
+def explained(text, version, number): return numbers(explain.explain(text, version, number))
 
 # One record, and one row
 
@@ -110,6 +116,7 @@ ARMS = {
     'hex': (0, lambda text: found(digits.hexadecimal(text))), 'digits': (2, spelled),
     'start': (1, lambda text, days: str(clock.start(days, text))), 'fraction': (1, fraction),
     'date': (1, lambda text, days: numbers(clock.day(days))), 'stamp': (2, lambda text, start, offset: numbers(clock.stamp(start, offset))),
+    'explain': (2, explained), 'begin': (3, lambda text, version, number, count: explained(text[:count], version, number)),
     'convert': (2, converted), 'long': (1, long), 'noise': (3, noise),
 }
 
@@ -128,8 +135,9 @@ for family in open(sys.argv[1], encoding='ascii').read().split('\n'):
     for n in range(int(first), int(last) + 1):
         lines.append(shown(fill(line, n, '%')) + ' -> ' + answer(fill(line, n, plain(given, n))))
 
-# The paper's small trace, its limits, and the errors that look right: how these lines begin. The answers are the paper's; where it prints none, as for
-# the start near a half (3,160,952,640,065.49984 before rounding) and for the bits of a record, they were worked out by hand.
+# The paper's small trace, its limits, the errors that look right, and what Order 1 says of a line: how these lines begin. The answers are the papers';
+# where they print none, as for the start near a half (3,160,952,640,065.49984 before rounding), for the bits of a record and for the fields of Order 1,
+# they were worked out by hand.
 
 PAPER = r'''
 read room 100 small trace: %1) 0.000 1 Rx 0123 2 0A FF\r\n2) 1500.250 2 Tx 18AB0001 0\r\n3) 1500.249 1 Rx 0124 3 RTR\r\n -> 0 0 12 3160987200000 3 3 000000000000080000048c82bfc0000000000000
@@ -168,9 +176,36 @@ read room 100 day near a half: ;$FILEVERSION=1.2\r\n;$STARTTIME=36585.1000007581
 read room 100 id of eight digits, 291: %1) 0.000 1 Rx 00000123 0\r\n -> 0 0 12 3160987200000 1 0 000000000000088000048c00
 read room 100 word AB: %1) 0.000 1 Warng FFFFFFFF 4 00 00 00 08 AB\r\n -> 0 0 12 3160987200000 1 0 0000000000000c0000000100000002
 read room 60 of 60 bytes, row 3 refused: ;$FILEVERSION=1.1\r\n;$STARTTIME=0.5\r\n1) 0.0 Rx 0123 0\r\n2) 0.1 Rx 0123 0\r\n2) 0.2 Rx 0123 0\r\n -> 7 5 0 0 0 0 untouched
+explain version 12 number 1: 1) 0.000 1 Rx 0123 2 0A FF -> 30 0 0 0
+explain version 11 number 1: 1) 0.000 1 Rx 0123 2 0A FF -> 0 0 1 2
+explain version 12 number 1: 2) 0.000 1 Rx 0123 2 0A FF -> 0 0 1 1
+explain version 12 number 1: 1) 0.000 17 Rx 0123 2 0A FF -> 0 0 1 3
+explain version 12 number 1: 1) 0.000 1 Warnng FFFFFFFF 4 00 00 00 08 -> 0 0 1 4
+explain version 11 number 1: 1) 0.0 Warnng FFFFFFFF 4 00 00 00 08 -> 0 0 1 3
+explain version 12 number 1: 1) 0.000 1 Rx 0800 2 0A FF -> 0 0 1 5
+explain version 12 number 1: 1) 0.000 1 Rx 0123 9 -> 0 0 1 6
+explain version 12 number 1: 1) 0.000 1 Rx 0123 8 -> 0 0 2 6
+explain version 12 number 1: 1) 0.000 1 Rx 0123 8 01 -> 0 0 2 7
+explain version 12 number 1: 1) 0.000 1 Rx 0123 0 00 -> 0 0 1 7
+explain version 12 number 1: 1) 0.000 1 Rx 0123 2 RTR RTR -> 0 0 1 8
+explain version 12 number 1: 1) 0.000 1 Error 0001 4 00 10 00 00 -> 0 0 1 8
+explain version 12 number 1: 1) 0.000 1 Warng FFFFFFFF 4 01 02 03 -> 0 0 2 9
+explain version 12 number 1: 1) 0.000 1 Warng FFFFFFFF 4 00 00 00 08 A -> 30 0 0 0
+explain version 12 number 1: 1) 0.000 1 Warng FFFFFFFF 4 00 00 00 08 Ab -> 0 0 1 11
+explain version 12 number 1:  -> 0 0 2 0
+explain version 11 number 1:    -> 0 0 2 0
+explain version 12 number 1: ; -> 30 0 0 0
+explain version 12 number 1: ;\x09$X -> 30 0 0 0
+explain version 12 number 1: ;$X -> 0 0 1 1
+explain version 12 number 1: ; $X -> 0 0 1 1
+explain version 12 number 1: 1) 0.000 1 Rx 0123 9\r\n -> 30 0 0 0
+explain version 12 number 0: x -> 30 0 0 0
+explain version 12 number 1000000: x -> 30 0 0 0
+explain version 12 number xFFFFFFFFFFFFFFFF: 18446744073709551615) 0.000 1 Rx 0123 0 -> 30 0 0 0
+explain version 13 number 1: ; -> 21 0 0 0
+explain version 10 number 0: 0) 0.0 Rx 0123 0 -> 21 0 0 0
 '''
-for said in PAPER.strip('\n').split('\n'): assert any(line.startswith(said) for line in lines), said
-for x, answer in ((249, '0 0 12'), (250, '3 3 0 0 0 0')):
-    said = 'read room 100 comment with %d x: %%;%s\\r\\n -> %s' % (x, 'x' * x, answer)
-    assert any(line.startswith(said) for line in lines), said
+LONG = [r'read room 100 comment with %d x: %%;%s\r\n -> %s' % (x, 'x' * x, said) for x, said in ((249, '0 0 12'), (250, '3 3 0 0 0 0'))]
+LONG += ['explain version 12 number 1: 1) 0.000 1 Rx 0123 %d%s -> %s' % (n, ' ' * 232, said) for n, said in ((0, '30 0 0 0'), (9, '0 0 1 6'))]
+for said in PAPER.strip('\n').split('\n') + LONG: assert any(line.startswith(said) for line in lines), said
 print('\n'.join(lines))

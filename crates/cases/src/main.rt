@@ -1,5 +1,6 @@
 // Runs the library's functions on either side of every limit. The cases are the lines of `stdin`, which says how they are written. A line that is
 // printed shows what is tried and what comes back. What is printed is compared with `stdout`.
+mod explaining;
 mod inputs;
 mod reading;
 mod records;
@@ -23,10 +24,11 @@ ghost use mathlib.Core.Path.{_≡_};
 ghost use Prim.Native.Nat.{_≤_, _<_};
 ghost use lib.ListN.{length};
 
-fn line_space() -> [u8; 800]
-    ensures { λ r. ⌜ 800 ≡ length r ⌝ }
+// Room for a case with two fields that are longer than a window.
+fn line_space() -> [u8; 10000]
+    ensures { λ r. ⌜ 10000 ≡ length r ⌝ }
 {
-    [0; 800]
+    [0; 10000]
 }
 
 // Room for all of `stdin`.
@@ -55,10 +57,18 @@ fn of_numbers(word: u64, line: &[u8]) -> bool {
     time::tried(word, line)
 }
 
+// Tries a case of a text or of a line, if the word is one.
+fn of_texts(word: u64, line: &[u8]) -> bool {
+    if reading::tried(word, line) {
+        return true;
+    }
+    explaining::tried(word, line)
+}
+
 // One case. Its first word says what is tried.
 fn tried(line: &[u8]) {
     let word = key(before(before(line, b' '), b':'));
-    if reading::tried(word, line) {
+    if of_texts(word, line) {
         return;
     }
     if of_records(word, line) {
