@@ -13,7 +13,7 @@ ghost use Rattle.base.specs.Text.{text, blank, cr};
 ghost use Rattle.digits.specs.Digits.{DecimalDigit, HexDigit, Hex};
 ghost use Rattle.fields.specs.Runs.{All};
 ghost use Rattle.fields.specs.Columns.{NumberField, OffsetField, BusField, LengthField, Capital, remoteText};
-ghost use Rattle.fields.specs.inner.Window.{windowBytes, Lined, Skipped, Solid, Starts, Scanned, Takes, HexField, TypeField, Rare};
+ghost use Rattle.fields.specs.inner.Window.{windowBytes, Lined, Skipped, Solid, Starts, Scanned, Takes, HexField, TypeField};
 
 // How many bytes a window has. A row is read from a window, behind a thin reference: over a slice each gap and each field would be a real
 // call with two numbers more.
@@ -260,21 +260,6 @@ fn long_type(w: &[u8; WINDOW], at: usize, a: u8, b: u8, c: u8, d: u8, value: u64
     Scan { end: at + 5, value }
 }
 
-// `Warng` or `Error`. Few rows have them; with their bytes in a function of its own `type_field` is small enough for the compiler to put it in where it
-// is called.
-fn rare_type(w: &[u8; WINDOW], at: usize) -> Scan
-    requires { ⌜ Starts (now w) at × Rare (getD (now w) at 0) ⌝ }
-    ensures { λ s. ⌜ Takes TypeField (now (w .entry)) at s ⌝ }
-{
-    let bytes: &[u8] = w;
-    let m = bytes[at];
-    match m {
-        b'W' => long_type(w, at, b'a', b'r', b'n', b'g', 2),
-        b'E' => long_type(w, at, b'r', b'r', b'o', b'r', 3),
-        _ => none(),
-    }
-}
-
 // `Rx`, `Tx`, `Warng` or `Error`. No branch tells `Rx` from `Tx`: a trace mixes the two.
 pub fn type_field(w: &[u8; WINDOW], at: usize) -> Scan
     requires { ⌜ Starts (now w) at ⌝ }
@@ -284,7 +269,9 @@ pub fn type_field(w: &[u8; WINDOW], at: usize) -> Scan
     let m = bytes[at];
     match m {
         b'R' | b'T' => short_type(w, at, wide((m - b'R') / 2)),
-        _ => rare_type(w, at),
+        b'W' => long_type(w, at, b'a', b'r', b'n', b'g', 2),
+        b'E' => long_type(w, at, b'r', b'r', b'o', b'r', 3),
+        _ => none(),
     }
 }
 

@@ -1,8 +1,7 @@
 -- Reading single fields of a window: what the field readers promise. A window is a line, CR, and whatever is behind it.
 use Prim.Native.Nat.{ℕ, _+_, _≤_, _<_}
-use Prim.Native.Char.{code}
 use mathlib.Core.Path.{_≡_}
-use mathlib.Core.Logic.{_≢_, _⊎_}
+use mathlib.Core.Logic.{_≢_}
 use mathlib.Core.List.{List, _∷_, _++_}
 use lib.ListN.{length, getD, drop}
 use lib.Seq.{slice}
@@ -81,7 +80,3 @@ pub data TypeField : ℕ → List ℕ → Type 0 where
   tx : {f : List ℕ} → f ≡ typeTx → TypeField 1 f
   warng : {f : List ℕ} → f ≡ typeWarng → TypeField 2 f
   error : {f : List ℕ} → f ≡ typeError → TypeField 3 f
-
--- No `Rx` and no `Tx` starts with this byte.
-abbrev pub Rare : ℕ → Type 0
-Rare b = (b ≡ code "R") ⊎ (b ≡ code "T") → ⊥
