@@ -24,12 +24,12 @@ use Rattle.row.proofs.Open.{opens}
 use Rattle.fields.specs.Columns.{lastNumber}
 use Rattle.explain.specs.declared.Explained.{Explained}
 use Rattle.explain.specs.declared.Explained.the-variants as explained
-use Rattle.explain.specs.Explain.{Unexplained, no-number, no-line, row, comment}
+use Rattle.explain.specs.Explain.{row}
 use Rattle.explain.specs.Promise.{ExplainPromise, explainNumbers, unexplained}
 use Rattle.explain.specs.Promise.{wrong as promise-wrong, early as promise-early}
 use Rattle.explain.specs.inner.Steps.{Moves, moved, stuck, Reached, FoundIn}
 use Rattle.explain.proofs.Fields.{reached-next, found-wrong, found-early, found-row}
-use Rattle.explain.proofs.Theorems.{wrong-no-row, early-no-row}
+use Rattle.explain.proofs.Theorems.{wrong-no-row, early-no-row, to-explain}
 
 -- i fields stand before the place `at`, and whatever row is reached with the first, is reached with them.
 pub record Going (line : List ℕ) (from : ℕ) (first p : Part) (at i : ℕ) : Type 0 where
@@ -74,20 +74,8 @@ module _ {line : List ℕ} {from at a i : ℕ} {first p : Part} (x : Going line 
 -- The whole answer.
 module _ {line : List ℕ} {v k : ℕ} (is : Version v) (i : All Inside line) (n : Comment line → ⊥) (l : 1 ≤ k) (h : k ≤ lastNumber) where
   pub answered : (x : Explained) → FoundIn v k line x → ExplainPromise line v k (explainNumbers x)
-  answered (explained.Wrong j) w = promise-wrong is no w refl
-    where
-      no : Unexplained v k line → ⊥
-      no (no-number f) = f l h
-      no (no-line f) = f i
-      no (row q) = wrong-no-row w q
-      no (comment c) = n c
-  answered (explained.Early j) w = promise-early is no w refl
-    where
-      no : Unexplained v k line → ⊥
-      no (no-number f) = f l h
-      no (no-line f) = f i
-      no (row q) = early-no-row w q
-      no (comment c) = n c
+  answered (explained.Wrong j) w = promise-wrong is (to-explain l h i n (λ r. wrong-no-row w)) w refl
+  answered (explained.Early j) w = promise-early is (to-explain l h i n (λ r. early-no-row w)) w refl
   answered (explained.Refused m) (e, (r, q)) = unexplained is (row q) (rw e refl)
 
 -- No row is without a field, and no row number is long.

@@ -12,8 +12,9 @@ use Rattle.trace.specs.Promise.{EndedLines, ReadPromise, readNumbers, large, do
 use Rattle.trace.proofs.Exactly.{refused-fails}
 use Rattle.trace.proofs.Fails.{Stage, RightSoFar, at-later, WrongNext, no-row, Fails}
 use Rattle.explain.specs.declared.Explained.the-variants as explained
-use Rattle.explain.specs.Explain.{Unexplained, no-number, no-line, row, comment}
+use Rattle.explain.specs.Explain.{Unexplained, no-number, row}
 use Rattle.explain.specs.Promise.{ExplainPromise, no-version, unexplained, wrong, early}
+use Rattle.explain.proofs.Theorems.{to-explain}
 
 -- What is explained is no refusal, and what is not to be explained is one.
 pub not-refused : {line a : List ℕ} {v k : ℕ} → Version v → (Unexplained v k line → ⊥) → ExplainPromise line v k a → getD a 0 0 ≡ 0
@@ -60,15 +61,9 @@ row-refused f = go (f .stands) (f .stopped) (f .whole) (f .at)
       before = ls;
       trace = t;
       spelled = a;
-      explains = λ x h q. not-refused (a .version .is) (no h) q;
+      explains = λ x h q. not-refused (a .version .is) (to-explain (omega arith) (omega arith) (l .first .inside) c r) q;
       full = λ x h q. refused-30 (a .version .is) (no-number (λ u w. omega arith)) q;
     }
-      where
-        no : length (t .records) < lastNumber → Unexplained (t .version) (1 + length (t .records)) line → ⊥
-        no h (no-number u) = u (omega arith) (omega arith)
-        no h (no-line u) = u (l .first .inside)
-        no h (row w) = r _ w
-        no h (comment x) = c x
 
 pub explains-refused : {text out a after : List ℕ} {place : ℕ} → ReadPromise text out a after → a ≡ readNumbers (outcome.Refused 7 place)
     → RefusedRow text place

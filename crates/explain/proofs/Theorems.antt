@@ -7,11 +7,14 @@ use native.Mathlib.Decide.{decLt}
 use lib.ListN.{length, take, drop, take-append-drop}
 use lib.Seq.{take-take}
 use Rattle.record.specs.declared.Record.{Record}
+use Rattle.fields.specs.Columns.{lastNumber}
+use Rattle.fields.specs.Runs.{All}
 use Rattle.fields.proofs.Parts.{parted-one}
+use Rattle.lines.specs.Lines.{Inside, Comment}
 use Rattle.row.specs.Row.{RowFields, Row}
 use Rattle.explain.specs.declared.Explained.{Explained}
 use Rattle.explain.specs.declared.Explained.the-variants as explained
-use Rattle.explain.specs.Explain.{BeginsRow, WrongField, EndedEarly}
+use Rattle.explain.specs.Explain.{BeginsRow, WrongField, EndedEarly, Unexplained, no-number, no-line, row, comment}
 use Rattle.explain.specs.Promise.{ExplainPromise, explainNumbers, no-version, unexplained, wrong, early}
 
 module _ {v k : ℕ} where
@@ -55,6 +58,14 @@ module _ {v k : ℕ} where
 
   pub one-early : {line : List ℕ} {i j : ℕ} → EndedEarly v k line i → EndedEarly v k line j → i ≡ j
   one-early p q = sym (p .count) ∙ ap length (parted-one (p .parted) (q .parted)) ∙ q .count
+
+-- A line that is neither a row nor a comment is explained, where a row may have this number.
+pub to-explain : {line : List ℕ} {v k : ℕ} → 1 ≤ k → k ≤ lastNumber → All Inside line → (Comment line → ⊥) → ((r : Record) → Row v k r line → ⊥)
+    → Unexplained v k line → ⊥
+to-explain l h i c n (no-number f) = f l h
+to-explain l h i c n (no-line f) = f i
+to-explain l h i c n (row w) = n _ w
+to-explain l h i c n (comment x) = c x
 
 -- One answer.
 pub one-explain : {line : List ℕ} {v k : ℕ} {a b : List ℕ} → ExplainPromise line v k a → ExplainPromise line v k b → a ≡ b
