@@ -6,6 +6,7 @@
 
 mod clock;
 mod cursor;
+mod explain;
 mod export;
 mod pen;
 mod reader;
@@ -16,6 +17,7 @@ mod tables;
 mod tests;
 mod writer;
 
+pub use explain::explain;
 pub use export::export;
 pub use reader::read;
 pub use record::{pack, unpack};
