@@ -8,6 +8,8 @@ mod clock;
 mod cursor;
 mod explain;
 mod export;
+#[cfg(test)]
+mod meaning;
 mod pen;
 mod reader;
 mod record;
