@@ -2,11 +2,15 @@
 
 use bushingowl_bench::compare::inputs::one_input;
 use bushingowl_bench::compare::limits::limits;
+use bushingowl_bench::compare::lines::one_row;
+use bushingowl_bench::compare::long_lines::long_lines;
 use bushingowl_bench::compare::runs::Runs;
 use bushingowl_bench::compare::Difference;
 use std::process::ExitCode;
 
 const INPUTS: u64 = 1_000_000;
+/// A row whose lines are explained, some hundreds, comes with so many inputs.
+const INPUTS_A_ROW: u64 = 100;
 const SEED: u64 = 20_261_115;
 
 fn main() -> ExitCode {
@@ -25,7 +29,16 @@ fn main() -> ExitCode {
             return differs(&format!("input {input}"), &difference);
         }
     }
-    println!("{inputs} inputs at random done, now the size limits");
+    println!("{inputs} inputs at random done, now the lines to be explained");
+    for row in 1..=inputs.div_ceil(INPUTS_A_ROW) {
+        if let Err(difference) = one_row(&mut runs) {
+            return differs(&format!("lines of row {row}"), &difference);
+        }
+    }
+    if let Err(difference) = long_lines(&mut runs) {
+        return differs("long lines", &difference);
+    }
+    println!("lines done, now the size limits");
     if let Err(difference) = limits(&mut runs) {
         return differs("size limits", &difference);
     }

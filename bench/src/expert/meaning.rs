@@ -99,6 +99,7 @@ fn explained_as_meant() {
         all.extend(base.cut(&mut random));
         all.extend(base.with_odd_bytes(&mut random));
         all.extend(base.commented(&mut random));
+        all.extend(base.nearly_commented(&mut random));
         all.extend((0..50).map(|_| noise(&mut random)));
         // So long that the longest end of a row fits behind it.
         for line in all.iter().filter(|line| line.len() <= LONGEST - 64) {

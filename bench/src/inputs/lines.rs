@@ -104,12 +104,22 @@ impl RowFields {
         lines
     }
 
-    /// The row as a comment, or nearly so.
+    /// The row behind what makes it a comment.
     pub fn commented(&self, random: &mut Random) -> Vec<Vec<u8>> {
+        self.behind(random, &[";", "; ", ";;$", ";.$", "; \t$"])
+    }
+
+    /// The row behind what makes it look like a comment.
+    pub fn nearly_commented(&self, random: &mut Random) -> Vec<Vec<u8>> {
+        self.behind(random, &[";$", ";   $", " ;", "$", "\t;", "\0;"])
+    }
+
+    fn behind(&self, random: &mut Random, before: &[&str]) -> Vec<Vec<u8>> {
         let row = joined(random, &self.fields);
-        [";", "; ", ";$", ";   $", " ;", ";;$", "$", ";\t$", ";.$"]
-            .map(|before| [before.as_bytes(), &row].concat())
-            .to_vec()
+        let lines = before
+            .iter()
+            .map(|before| [before.as_bytes(), &row].concat());
+        lines.collect()
     }
 
     fn any_field(&self, random: &mut Random) -> Vec<u8> {
