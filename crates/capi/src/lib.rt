@@ -2,6 +2,8 @@
 // The answer goes to the caller's array, as the numbers of paper 01. In words: docs/FORMAT.md, section 11.
 use ascii::Exported;
 use ascii::export;
+use explain::Explained;
+use explain::explain;
 use record::Packed;
 use record::Unpacked;
 use record::of_fields;
@@ -16,6 +18,7 @@ ghost use Rattle.record.specs.Record.{recordOf};
 ghost use Rattle.trace.specs.Promise.{ReadPromise};
 ghost use Rattle.trace_writer.specs.Promise.{WritePromise};
 ghost use Rattle.ascii.specs.Promise.{ExportPromise};
+ghost use Rattle.explain.specs.Promise.{ExplainPromise};
 
 // Number, place, version (11 or 12), start, rows, first step back.
 #[no_mangle]
@@ -124,6 +127,25 @@ pub extern "C" fn bo_export(start: u64, records: &[u8], out: &mut [u8], answer: 
         }
         Exported::Refused { number, place } => {
             *answer = [number, place, 0, 0, 0];
+        }
+    }
+}
+
+// Number, place, reason (1 wrong field, 2 ended early), field.
+#[no_mangle]
+pub extern "C" fn bo_explain(line: &[u8], version: u32, number: u64, answer: &mut [u64; 4])
+    ensures { λ _. ⌜ ExplainPromise (now (line .entry)) version number (now (answer .exit)) ⌝ }
+{
+    let a = explain(line, version as u64, number);
+    match a {
+        Explained::Wrong(i) => {
+            *answer = [0, 0, 1, i];
+        }
+        Explained::Early(i) => {
+            *answer = [0, 0, 2, i];
+        }
+        Explained::Refused(n) => {
+            *answer = [n, 0, 0, 0];
         }
     }
 }
