@@ -1,6 +1,7 @@
 //! One call of the library and of the expert on equal buffers; all that they leave behind is compared.
 
-use super::{boundary, shown, Difference};
+use super::{shown, Difference};
+use crate::boundary;
 use crate::expert;
 use crate::inputs::random::Random;
 use crate::inputs::records::Fields;

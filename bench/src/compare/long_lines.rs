@@ -86,7 +86,9 @@ fn long_fields(runs: &mut Runs, version: u32, fields: &[Vec<u8>], len: usize) ->
                 false => fields.push(field),
             }
             let line = fields.join(&b' ');
-            runs.explain(kind, &line, version, NUMBER, Some(known))?;
+            // It may be a comment now.
+            let known = (line[0] != b';').then_some(known);
+            runs.explain(kind, &line, version, NUMBER, known)?;
         }
     }
     Ok(())

@@ -1,7 +1,6 @@
 //! The library and the expert on the same inputs.
 
 mod both;
-mod boundary;
 pub mod inputs;
 pub mod limits;
 pub mod lines;

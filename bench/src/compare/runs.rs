@@ -3,6 +3,7 @@
 use super::both::Both;
 use super::tally::Tally;
 use super::{shown, Difference};
+use crate::inputs::lines::LAST_NUMBER;
 use crate::inputs::random::Random;
 use crate::inputs::records::Fields;
 use bushingowl::{LEAST_ROW, MOST_HEADER, MOST_LINE, MOST_ROW, RECORD};
@@ -201,7 +202,7 @@ impl Runs {
         Ok(())
     }
 
-    /// Explains the line at which a text was refused with 7, which can't be refused.
+    /// Explains the line at which a text was refused with 7. It can't be refused, unless it follows the last row that there may be.
     fn explain_refused(&mut self, text: &[u8], place: u64) -> Result<(), Difference> {
         let mut lines = text.split(|&b| b == b'\n');
         let first = lines.next().unwrap_or_default().trim_ascii_end();
@@ -210,11 +211,12 @@ impl Runs {
         let number = 1 + before.filter(|line| line[0] != b';').count() as u64;
         let line = lines.next().and_then(|line| line.strip_suffix(b"\r"));
         let line = line.unwrap_or_default();
-        let [refused, ..] =
-            self.explain("explain: line refused with 7", line, version, number, None)?;
-        match refused {
-            0 => Ok(()),
-            _ => Err(self.wrong("a line that was refused with 7 is not explained", text)),
+        let kind = "explain: line refused with 7";
+        let [refused, ..] = self.explain(kind, line, version, number, None)?;
+        let expected = if number <= LAST_NUMBER { 0 } else { 30 };
+        match refused == expected {
+            true => Ok(()),
+            false => Err(self.wrong("a line that was refused with 7 is not explained", text)),
         }
     }
 
