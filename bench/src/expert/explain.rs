@@ -137,9 +137,19 @@ fn words(rest: &[u8], good: u64) -> Verdict {
     let Some(wrong) = first(rest, in_no_word) else {
         return Verdict::Row;
     };
-    let begins = |two: &&[u8]| two[0] == b' ' && two[1] != b' ';
-    let begun = rest[..=wrong].windows(2).filter(begins).count();
-    Verdict::Wrong(good + begun as u64)
+    Verdict::Wrong(good + begun(&rest[..=wrong]))
+}
+
+/// The fields that begin behind a blank.
+fn begun(bytes: &[u8]) -> u64 {
+    // No more than one byte can count.
+    const TOGETHER: usize = 128;
+    let (before, after) = (bytes, bytes.get(1..).unwrap_or_default());
+    let chunks = before.chunks(TOGETHER).zip(after.chunks(TOGETHER));
+    let begins = |(&before, &after)| u8::from((before == b' ') & (after != b' '));
+    chunks
+        .map(|(before, after)| u64::from(before.iter().zip(after).map(begins).sum::<u8>()))
+        .sum()
 }
 
 /// The runs of non-blank bytes. What follows a field begins with the blank behind it, or is empty.
@@ -163,7 +173,7 @@ impl<'a> Iterator for Fields<'a> {
 #[inline(always)]
 fn first(bytes: &[u8], kind: impl Fn(u8) -> bool) -> Option<usize> {
     const TOGETHER: usize = 64;
-    let has = |chunk: &[u8; TOGETHER]| chunk.iter().fold(false, |any, &byte| any | kind(byte));
+    let has = |chunk: &[u8; TOGETHER]| chunk.iter().fold(0, |any, &b| any | u8::from(kind(b))) > 0;
     let chunks = bytes.as_chunks().0;
     let before = TOGETHER * chunks.iter().position(has).unwrap_or(chunks.len());
     let within = bytes[before..].iter().position(|&byte| kind(byte))?;
