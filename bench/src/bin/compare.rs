@@ -1,5 +1,6 @@
 //! Compares the library with the expert: `compare [INPUTS [SEED]]`.
 
+use bushingowl_bench::compare::every_field::every_field;
 use bushingowl_bench::compare::inputs::one_input;
 use bushingowl_bench::compare::limits::limits;
 use bushingowl_bench::compare::lines::one_row;
@@ -35,8 +36,8 @@ fn main() -> ExitCode {
             return differs(&format!("lines of row {row}"), &difference);
         }
     }
-    if let Err(difference) = long_lines(&mut runs) {
-        return differs("long lines", &difference);
+    if let Err(difference) = every_field(&mut runs).and_then(|()| long_lines(&mut runs)) {
+        return differs("short fields and long lines", &difference);
     }
     println!("lines done, now the size limits");
     if let Err(difference) = limits(&mut runs) {

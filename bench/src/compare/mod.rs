@@ -1,6 +1,7 @@
 //! The library and the expert on the same inputs.
 
 mod both;
+pub mod every_field;
 pub mod inputs;
 pub mod limits;
 pub mod lines;
