@@ -1,4 +1,5 @@
-/* Prints what a trace file holds, and its export: convert FILE. All lines end with CR LF, as those of the export do. A pipe will do as well.
+/* Prints what a trace file holds, and its export: convert FILE; or its refusal, and for a line that is no row what is wrong with it, in words.
+ * All lines end with CR LF, as those of the export do. A pipe will do as well.
  * Ends with 0 if the trace was exported, 1 if it was refused, and 2 if it could not be done. */
 #include "bushingowl.h"
 
@@ -47,6 +48,125 @@ static int put_refusal(uint64_t number, uint64_t place)
     return printf("refused %" PRIu64 " at line %" PRIu64 "\r\n", number, place) >= 0;
 }
 
+/* Bytes of the text. */
+struct bytes {
+    const uint8_t *at;
+    size_t len;
+};
+
+/* A line, from 1, without its CR LF. It and all lines before it are ended. */
+static struct bytes line_of(const uint8_t *text, uint64_t number)
+{
+    struct bytes line = {text, 0};
+    for (;;) {
+        while (line.at[line.len] != '\r')
+            line.len++;
+        if (--number == 0)
+            return line;
+        line.at += line.len + 2;
+        line.len = 0;
+    }
+}
+
+/* A field of a line, from 1: what stands between blanks. Empty where the line has fewer. */
+static struct bytes field_of(struct bytes line, uint64_t number)
+{
+    size_t start = 0, end = 0;
+    for (; number > 0; number--) {
+        for (start = end; start < line.len && line.at[start] == ' '; start++)
+            ;
+        for (end = start; end < line.len && line.at[end] != ' '; end++)
+            ;
+    }
+    struct bytes field = {line.at + start, end - start};
+    return field;
+}
+
+static int is(struct bytes bytes, const char *word)
+{
+    return bytes.len == strlen(word) && memcmp(bytes.at, word, bytes.len) == 0;
+}
+
+/* Room for the name of a column. */
+#define COLUMN 40
+
+/* The name of the column of a field, behind fields that are right; empty behind the last of a row. Where the field is not right itself, or not
+ * there, it may be meant as RTR. */
+static void name_column(char name[COLUMN], struct bytes line, uint64_t version, uint64_t field, int right)
+{
+    static const char *const names[] = {"row number", "offset", "bus", "type", "ID", "length"};
+    /* In version 1.1, which has no bus, the type is field 3. */
+    uint64_t left_out = version == 11 ? 1 : 0;
+    uint64_t column = field < 3 ? field : field + left_out;
+    if (column <= 6) {
+        snprintf(name, COLUMN, "%s", names[column - 1]);
+        return;
+    }
+    struct bytes type = field_of(line, 4 - left_out);
+    int frame = is(type, "Rx") || is(type, "Tx");
+    int remote = frame && is(field_of(line, 7 - left_out), "RTR");
+    int bytes = *field_of(line, 6 - left_out).at - '0';
+    int byte = (int)(column - 6);
+    if (frame && byte == 1 && !right && bytes == 0)
+        snprintf(name, COLUMN, "RTR or nothing");
+    else if (frame && byte == 1 && !right)
+        snprintf(name, COLUMN, "RTR or data byte 1 of %d", bytes);
+    else if (byte <= bytes && !remote)
+        snprintf(name, COLUMN, "data byte %d of %d", byte, bytes);
+    else
+        snprintf(name, COLUMN, "%s", is(type, "Warng") ? "word" : "");
+}
+
+/* Prints at most 40 bytes of a field, in quotes. What can't be seen is printed as its number. */
+static int put_quoted(struct bytes field)
+{
+    int done = putchar('"') != EOF;
+    for (size_t i = 0; i < field.len && i < 40; i++) {
+        int byte = field.at[i];
+        int seen = byte > ' ' && byte < 127 && byte != '"' && byte != '\\';
+        done = done && printf(seen ? "%c" : "\\x%02X", byte) >= 0;
+    }
+    return done && printf(field.len > 40 ? "\"..." : "\"") >= 0;
+}
+
+/* Prints what is wrong with a field. */
+static int put_wrong(struct bytes line, uint64_t version, uint64_t number, uint64_t field)
+{
+    char name[COLUMN];
+    name_column(name, line, version, field, 0);
+    int done = printf("field %" PRIu64, field) >= 0;
+    done = done && (name[0] == 0 ? printf(" is one too many: ") : printf(" (%s) is wrong: ", name)) >= 0;
+    done = done && put_quoted(field_of(line, field));
+    return done && (field == 1 ? printf(" instead of \"%" PRIu64 ")\"\r\n", number) : printf("\r\n")) >= 0;
+}
+
+/* Prints what is missing behind the last field. */
+static int put_early(struct bytes line, uint64_t version, uint64_t number, uint64_t field)
+{
+    if (field == 0)
+        return printf("the line is empty: row number \"%" PRIu64 ")\" was expected\r\n", number) >= 0;
+    char last[COLUMN], next[COLUMN];
+    name_column(last, line, version, field, 1);
+    name_column(next, line, version, field + 1, 0);
+    return printf("the row ended early after field %" PRIu64 " (%s): %s was expected next\r\n", field, last, next) >= 0;
+}
+
+/* Prints what is wrong with the line at which a text was refused with 7. The lines before it are a trace, which has the version, and as many rows
+ * as stand before; the room for records is enough for those of the whole text. */
+static int put_explanation(const uint8_t *text, uint64_t place, uint8_t *records, size_t records_len)
+{
+    struct bytes line = line_of(text, place);
+    uint64_t read[6], why[4];
+    bo_read(text, (size_t)(line.at - text), records, records_len, read);
+    uint64_t version = read[2], number = read[4] + 1;
+    if (number > BUSHINGOWL_MOST_ROWS)
+        return printf("row 999,999 stands before it, and no row may follow\r\n") >= 0;
+    bo_explain(line.at, line.len, (uint32_t)version, number, why);
+    if (why[2] == BUSHINGOWL_WRONG_FIELD)
+        return put_wrong(line, version, number, why[3]);
+    return put_early(line, version, number, why[3]);
+}
+
 /* What a trace holds beside its records. */
 static int put_head(const uint64_t read[6])
 {
@@ -67,8 +187,11 @@ static int put_text(const uint8_t *text, size_t len, int *status)
     bo_read(text, len, records, rows * BUSHINGOWL_RECORD, read);
     *status = 1;
     if (read[0] != 0) {
+        int done = put_refusal(read[0], read[1]);
+        if (read[0] == 7)
+            done = done && put_explanation(text, read[1], records, rows * BUSHINGOWL_RECORD);
         free(records);
-        return put_refusal(read[0], read[1]);
+        return done;
     }
     rows = (size_t)read[4];
     uint8_t *lines = room(rows * BUSHINGOWL_MOST_LINE);

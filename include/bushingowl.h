@@ -1,4 +1,5 @@
-/* Bushingowl: CAN traces (PEAK TRC 1.1 and 1.2) to packed records and back, and packed records to Telemotive ASCII.
+/* Bushingowl: CAN traces (PEAK TRC 1.1 and 1.2) to packed records and back, and packed records to Telemotive ASCII;
+ * and what is wrong with a line that is no row.
  *
  * WHAT A CALL DOES
  *
@@ -59,13 +60,15 @@
  *    8   0       the trace is good, and the output too short for its records            bo_read
  *   20   0       the bytes of the records are no multiple of 20 or above 19,999,980     bo_write, bo_export
  *                the bytes of the one record are not 20                                 bo_unpack
- *   21   0       the version is neither 11 nor 12                                       bo_write
+ *   21   0       the version is neither 11 nor 12                                       bo_write, bo_explain
  *   22   0       the start is above 8,639,999,999,999                                   bo_write, bo_export
  *   23   record  the first record that is not well formed                               bo_write, bo_export
  *        1       the record is not well formed                                          bo_unpack, bo_pack
  *   24   record  the first record that the version can't carry: 11 needs bus 0 and      bo_write
  *                an offset of whole 100 microseconds, 12 needs bus 1 to 16
  *   25   0       everything is good, and the output too short                           bo_write, bo_export, bo_pack
+ *   30   0       the expected number is not 1 to 999,999, or the line holds CR or LF,   bo_explain
+ *                or it is a row of this version and number, or a comment
  *
  * Of several, bo_read gives 1 first, then that of the earliest line (on one line 2, then 3, then the rest), and 8 last.
  * The others give the one that stands first in this table; bo_write tests all records for 23 before any for 24.
@@ -81,8 +84,9 @@
 extern "C" {
 #endif
 
-/* The state of this interface: one more whenever a function's parameters or answer change. */
-#define BUSHINGOWL_API 1
+/* The state of this interface: one more whenever a function is added, or its parameters or answer change. 2 added
+ * bo_explain. */
+#define BUSHINGOWL_API 2
 
 /* The kinds of a record. Only data frames give a line of an export. */
 #define BUSHINGOWL_DATA_RECEIVED 0
@@ -91,6 +95,10 @@ extern "C" {
 #define BUSHINGOWL_REMOTE_SENT 3
 #define BUSHINGOWL_WARNING 4
 #define BUSHINGOWL_ERROR_FRAME 5
+
+/* The reasons why a line is no row. */
+#define BUSHINGOWL_WRONG_FIELD 1
+#define BUSHINGOWL_ENDED_EARLY 2
 
 /* The bytes of a packed record. */
 #define BUSHINGOWL_RECORD 20
@@ -158,6 +166,26 @@ void bo_unpack(const uint8_t *record, size_t record_len, uint64_t answer[9]);
  * answer: number, place.
  * Refusals: 23, 25. */
 void bo_pack(const uint64_t fields[7], uint8_t *out, size_t out_len, uint64_t answer[2]);
+
+/* Tells what is wrong with a line that bo_read refused with 7: which field to look at.
+ * A field is one byte or more, none of them a blank (byte 32 only), with blanks or an end of the line on either side.
+ *   Fields count from 1 as they stand in the line. In version 12 they are row number, offset, bus, type, ID, length,
+ *   then the data; version 11 has no bus, so that the type is field 3.
+ * line: its bytes without CR LF, as many as there are; bo_read's limit of 250 does not count here. The time grows in
+ *   proportion to the line's length, and the stack does not grow.
+ * version: 11 for 1.1, 12 for 1.2.
+ * number: the number that the row must have, one more than there are rows before it. The lines before the refused one
+ *   are a trace themselves, so that bo_read of them gives both: the version in answer[2], the rows in answer[4].
+ * answer: number, place (always 0), reason, field. With number 0 the line is no row, and one of two reasons is given:
+ *   BUSHINGOWL_WRONG_FIELD: some row of this version and number begins with the fields before this one, and none with
+ *     this one as well.
+ *   BUSHINGOWL_ENDED_EARLY: some row begins with all fields of the line, and none ends with them; the field is the last
+ *     one, or 0 where the line is empty or blank.
+ * Refusals: 21, 30. A line that starts with ; is a comment, unless its first byte behind ; and blanks is $: that is a
+ *   wrong field 1. A trace has at most BUSHINGOWL_MOST_ROWS rows, so that behind row 999,999 bo_read refuses with 7
+ *   whatever is no comment, and bo_explain refuses the number 1,000,000 with 30: no field is wrong there, it is one row
+ *   too many. */
+void bo_explain(const uint8_t *line, size_t line_len, uint32_t version, uint64_t number, uint64_t answer[4]);
 
 #ifdef __cplusplus
 }

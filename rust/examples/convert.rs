@@ -1,7 +1,8 @@
-//! Prints what a trace file holds, and its export: `convert FILE`. All lines end with CR LF, as those of the export do. A pipe will do as well.
+//! Prints what a trace file holds, and its export: `convert FILE`; or its refusal, and for a line that is no row what is wrong with it, in words.
+//! All lines end with CR LF, as those of the export do. A pipe will do as well.
 //! Ends with 0 if the trace was exported, 1 if it was refused, and 2 if it could not be done.
 
-use bushingowl::{export_to_vec, read_to_vec, Refused, MOST_TEXT};
+use bushingowl::{explain_refusal, export_to_vec, read_to_vec, Refused, MOST_TEXT};
 use std::ffi::{OsStr, OsString};
 use std::fs::File;
 use std::io::{self, ErrorKind, Read, Write};
@@ -21,7 +22,7 @@ fn main() -> ExitCode {
     };
     let (output, code) = match convert(&text) {
         Ok(output) => (output, ExitCode::SUCCESS),
-        Err(refused) => (refusal(refused), ExitCode::FAILURE),
+        Err(refused) => (refusal(&text, refused), ExitCode::FAILURE),
     };
     match print(&output) {
         Ok(()) => code,
@@ -52,8 +53,13 @@ fn convert(text: &[u8]) -> Result<Vec<u8>, Refused> {
     Ok([head.as_bytes(), &lines].concat())
 }
 
-fn refusal(refused: Refused) -> Vec<u8> {
-    format!("refused {} at line {}\r\n", refused.number(), refused.place).into_bytes()
+/// What is printed for a text that is refused.
+fn refusal(text: &[u8], refused: Refused) -> Vec<u8> {
+    let mut said = format!("refused {} at line {}\r\n", refused.number(), refused.place);
+    if let Some(explanation) = explain_refusal(text, refused) {
+        said += &format!("{explanation}\r\n");
+    }
+    said.into_bytes()
 }
 
 fn print(output: &[u8]) -> io::Result<()> {

@@ -34,6 +34,13 @@ mod c {
             out_len: usize,
             answer: *mut u64,
         );
+        pub fn bo_explain(
+            line: *const u8,
+            line_len: usize,
+            version: u32,
+            number: u64,
+            answer: *mut u64,
+        );
     }
 }
 
@@ -103,6 +110,21 @@ pub fn export(start: u64, records: &[u8], out: &mut [u8]) -> [u64; 5] {
             records.len(),
             out.as_mut_ptr(),
             out.len(),
+            answer.as_mut_ptr(),
+        )
+    }
+    answer
+}
+
+pub fn explain(line: &[u8], version: u32, number: u64) -> [u64; 4] {
+    let mut answer = [UNSET; 4];
+    // SAFETY: see above; the answer has room for the four numbers of the header.
+    unsafe {
+        c::bo_explain(
+            line.as_ptr(),
+            line.len(),
+            version,
+            number,
             answer.as_mut_ptr(),
         )
     }

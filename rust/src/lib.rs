@@ -6,6 +6,7 @@
 //! [`read_to_vec`], [`write_to_vec`] and [`export_to_vec`] allocate what they hand out. [`read`], [`write()`] and [`export`]
 //! take the output from the caller, and allocate nothing: if accepted, it begins with the bytes written and behind them
 //! holds what it held before; if refused, all of it does. [`unpack`] and [`pack`] are for single records.
+//! [`explain_refusal`] tells which field of a refused row is wrong, and [`explain()`] does so for a single line.
 //! [`numbers`] has the same functions with the plain numbers of the C boundary.
 //!
 //! A start counts milliseconds from 30 December 1899, 0:00, in the local time of the logger (1 January 1970 is day
@@ -26,10 +27,14 @@
 //! ```
 
 mod boundary;
+mod column;
+mod explain;
 pub mod numbers;
 mod record;
 mod refused;
 
+pub use column::Column;
+pub use explain::{explain, explain_refusal, Explanation, RowExplanation, RowFault, RowReason};
 pub use record::{Kind, Record};
 pub use refused::{Reason, Refused};
 

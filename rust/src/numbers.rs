@@ -28,3 +28,8 @@ pub fn pack(fields: &[u64; 7], out: &mut [u8]) -> [u64; 2] {
 pub fn export(start: u64, records: &[u8], out: &mut [u8]) -> [u64; 5] {
     boundary::export(start, records, out)
 }
+
+/// Number, place, reason, field.
+pub fn explain(line: &[u8], version: u32, number: u64) -> [u64; 4] {
+    boundary::explain(line, version, number)
+}

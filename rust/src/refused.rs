@@ -37,11 +37,14 @@ pub enum Reason {
     NotCarried = 24,
     /// Everything is good, and the output too short.
     NoRoom = 25,
+    /// The expected number is not 1 to [`MOST_ROWS`](crate::MOST_ROWS), or the line holds CR or LF, or it is a row of this
+    /// version and number, or a comment.
+    Unexplained = 30,
 }
 
 impl Reason {
     /// The reasons in the order of their numbers.
-    pub const ALL: [Reason; 14] = [
+    pub const ALL: [Reason; 15] = [
         Reason::TextTooLong,
         Reason::LineNotEnded,
         Reason::LineTooLong,
@@ -56,6 +59,7 @@ impl Reason {
         Reason::NotWellFormed,
         Reason::NotCarried,
         Reason::NoRoom,
+        Reason::Unexplained,
     ];
 
     /// The refusal number.
@@ -113,6 +117,7 @@ impl fmt::Display for Refused {
             Reason::NotWellFormed => write!(f, "record {place} is not well formed"),
             Reason::NotCarried => write!(f, "the version can't carry record {place}"),
             Reason::NoRoom => write!(f, "the output is too short"),
+            Reason::Unexplained => write!(f, "the line is a row or a comment or holds CR or LF, or its number is not 1 to 999,999"),
         }?;
         write!(f, " (refusal {})", self.number())
     }

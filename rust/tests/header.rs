@@ -1,8 +1,8 @@
 //! The constants of `include/bushingowl.h` are those of this crate.
 
 use bushingowl::{
-    Kind, LEAST_ROW, MOST_HEADER, MOST_LINE, MOST_OFFSET, MOST_ROW, MOST_ROWS, MOST_START,
-    MOST_TEXT, RECORD,
+    Kind, RowReason, LEAST_ROW, MOST_HEADER, MOST_LINE, MOST_OFFSET, MOST_ROW, MOST_ROWS,
+    MOST_START, MOST_TEXT, RECORD,
 };
 
 const HEADER: &str = include_str!("../../include/bushingowl.h");
@@ -54,5 +54,21 @@ fn kinds_are_the_same() {
     ];
     for (name, kind) in kinds {
         assert_eq!(defined(name), kind.number().to_string(), "{name}");
+    }
+}
+
+#[test]
+fn reasons_are_the_same() {
+    let reasons = [
+        ("WRONG_FIELD", RowReason::WrongField),
+        ("ENDED_EARLY", RowReason::EndedEarly),
+    ];
+    assert_eq!(reasons.len(), RowReason::ALL.len());
+    for (name, reason) in reasons {
+        assert_eq!(defined(name), reason.number().to_string(), "{name}");
+        assert_eq!(RowReason::of(reason.number()), Some(reason));
+    }
+    for number in [0, 3, u64::MAX] {
+        assert_eq!(RowReason::of(number), None);
     }
 }

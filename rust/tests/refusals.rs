@@ -172,6 +172,8 @@ fn with_zeros_for_all_other_numbers() {
     assert_eq!(numbers::unpack(&[]), [20, 0, 0, 0, 0, 0, 0, 0, 0]);
     assert_eq!(numbers::pack(&[u64::MAX; 7], &mut [0; 20]), [23, 1]);
     assert_eq!(numbers::pack(&[0; 7], &mut []), [25, 0]);
+    assert_eq!(numbers::explain(b"", 13, 1), [21, 0, 0, 0]);
+    assert_eq!(numbers::explain(b";", 12, 1), [30, 0, 0, 0]);
 }
 
 #[test]
@@ -200,6 +202,11 @@ fn in_words() {
         (23, 8, "record 8 is not well formed (refusal 23)"),
         (24, 8, "the version can't carry record 8 (refusal 24)"),
         (25, 0, "the output is too short (refusal 25)"),
+        (
+            30,
+            0,
+            "the line is a row or a comment or holds CR or LF, or its number is not 1 to 999,999 (refusal 30)",
+        ),
     ];
     assert_eq!(cases.len(), Reason::ALL.len());
     for (number, place, words) in cases {
@@ -207,7 +214,7 @@ fn in_words() {
         assert_eq!(reason.number(), number);
         assert_eq!(shown(reason, place), words);
     }
-    for number in [0, 9, 19, 26, u64::MAX] {
+    for number in [0, 9, 19, 26, 29, 31, u64::MAX] {
         assert_eq!(Reason::of(number), None);
     }
 }

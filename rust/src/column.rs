@@ -1,0 +1,93 @@
+//! The columns of a row.
+
+use std::fmt;
+
+/// A column of a row, by what may stand in it. It is shown by its name.
+///
+/// ```
+/// use bushingowl::Column;
+/// assert_eq!(Column::Data { byte: 3, of: 4 }.to_string(), "data byte 3 of 4");
+/// assert_eq!(Column::FirstOrRemote { of: 2 }.to_string(), "RTR or data byte 1 of 2");
+/// ```
+#[derive(Clone, Copy, Debug, PartialEq, Eq, Hash)]
+#[non_exhaustive]
+pub enum Column {
+    /// Row number and `)`.
+    Number,
+    Offset,
+    /// In version 1.2 only.
+    Bus,
+    /// `Rx`, `Tx`, `Warng` or `Error`.
+    Type,
+    Id,
+    Length,
+    /// Behind the length of an `Rx` or `Tx`: the field `RTR`, or the first data byte of so many. Of none, `RTR` or nothing.
+    FirstOrRemote {
+        of: u8,
+    },
+    /// A data byte, from 1, of so many.
+    Data {
+        byte: u8,
+        of: u8,
+    },
+    /// A word of a warning.
+    Word,
+    /// Behind the last field of a row.
+    End,
+}
+
+impl Column {
+    /// What comes next behind these fields, with which some row of this version begins.
+    pub(crate) fn behind(version: u32, fields: &[&[u8]]) -> Column {
+        use Column::{Bus, Id, Length, Number, Offset, Type};
+        let head: &[Column] = match version {
+            11 => &[Number, Offset, Type, Id, Length],
+            _ => &[Number, Offset, Bus, Type, Id, Length],
+        };
+        if let Some(column) = head.get(fields.len()) {
+            return *column;
+        }
+        let (head, data) = fields.split_at(head.len());
+        let [.., kind, _, length] = head else {
+            return Column::End;
+        };
+        let of = length.first().map_or(0, |digit| digit.saturating_sub(b'0'));
+        let frame = matches!(*kind, b"Rx" | b"Tx");
+        match data {
+            [] if frame => Column::FirstOrRemote { of },
+            [b"RTR"] if frame => Column::End,
+            _ if data.len() < of.into() => Column::Data {
+                byte: data.len() as u8 + 1,
+                of,
+            },
+            _ if *kind == b"Warng" => Column::Word,
+            _ => Column::End,
+        }
+    }
+
+    /// The column of a field that ended no row: `RTR` would have.
+    pub(crate) fn taken(self) -> Column {
+        match self {
+            Column::FirstOrRemote { of } => Column::Data { byte: 1, of },
+            other => other,
+        }
+    }
+}
+
+impl fmt::Display for Column {
+    fn fmt(&self, f: &mut fmt::Formatter) -> fmt::Result {
+        match self {
+            Column::Number => write!(f, "row number"),
+            Column::Offset => write!(f, "offset"),
+            Column::Bus => write!(f, "bus"),
+            Column::Type => write!(f, "type"),
+            Column::Id => write!(f, "ID"),
+            Column::Length => write!(f, "length"),
+            Column::FirstOrRemote { of: 0 } => write!(f, "RTR or nothing"),
+            Column::FirstOrRemote { of } => write!(f, "RTR or data byte 1 of {of}"),
+            Column::Data { byte, of } => write!(f, "data byte {byte} of {of}"),
+            Column::Word => write!(f, "word"),
+            Column::End => write!(f, "end of the row"),
+        }
+    }
+}

@@ -1,0 +1,222 @@
+//! What is wrong with a line that is no row.
+
+use crate::refused::accepted;
+use crate::{numbers, read, read_to_vec, Column, Reason, Refused, MOST_ROWS};
+use std::fmt;
+
+/// The reasons why a line is no row, each with its number.
+#[derive(Clone, Copy, Debug, PartialEq, Eq, Hash)]
+pub enum RowReason {
+    /// Some row begins with the fields before this one, and none with this one as well.
+    WrongField = 1,
+    /// Some row begins with all fields of the line, and none ends with them.
+    EndedEarly = 2,
+}
+
+impl RowReason {
+    /// The reasons in the order of their numbers.
+    pub const ALL: [RowReason; 2] = [RowReason::WrongField, RowReason::EndedEarly];
+
+    /// The number that stands for the reason in an answer.
+    pub fn number(self) -> u64 {
+        self as u64
+    }
+
+    /// The reason that has this number.
+    pub fn of(number: u64) -> Option<RowReason> {
+        RowReason::ALL
+            .into_iter()
+            .find(|reason| reason.number() == number)
+    }
+}
+
+/// Why a line is no row.
+#[derive(Clone, Copy, Debug, PartialEq, Eq, Hash)]
+pub struct Explanation {
+    pub reason: RowReason,
+    /// The wrong field, from 1. Of a row that ended early the last field; 0 where the line is empty or blank.
+    pub field: u64,
+}
+
+/// Tells why a line, given without its CR LF, is not the row with this number in this version. Fields are what stands
+/// between blanks. A line may have any length; the time grows in proportion to it.
+///
+/// Refused with the numbers 21 and 30: there is nothing to explain if the line is that row or a comment or holds CR or
+/// LF, or if no row may have this number.
+///
+/// ```
+/// use bushingowl::{explain, Explanation, RowReason};
+/// let wrong = Explanation { reason: RowReason::WrongField, field: 6 };
+/// assert_eq!(explain(b"2) 1500.250 2 Tx 18AB0001 9", 12, 2), Ok(wrong));
+/// let early = Explanation { reason: RowReason::EndedEarly, field: 6 };
+/// assert_eq!(explain(b"2) 1500.250 2 Tx 18AB0001 1", 12, 2), Ok(early));
+/// assert_eq!(explain(b"2) 1500.250 2 Tx 18AB0001 0", 12, 2).unwrap_err().number(), 30);
+/// ```
+pub fn explain(line: &[u8], version: u32, number: u64) -> Result<Explanation, Refused> {
+    let [refusal, place, reason, field] = numbers::explain(line, version, number);
+    accepted(refusal, place)?;
+    let reason = RowReason::of(reason).expect("the library gives only the reasons of its header");
+    Ok(Explanation { reason, field })
+}
+
+/// The line of a text that is no row, and why. It is shown in words, in which a field is cut behind 40 bytes and bytes
+/// that can't be seen are written as `\x09`; so are `"` and `\`.
+#[derive(Clone, Copy, Debug, PartialEq, Eq, Hash)]
+pub struct RowExplanation<'a> {
+    /// The line, from 1.
+    pub line: u64,
+    /// The version of the text: 11 for 1.1, 12 for 1.2.
+    pub version: u32,
+    /// The number that the row must have, one more than there are rows before it.
+    pub number: u64,
+    pub fault: RowFault<'a>,
+}
+
+/// What is wrong with the line of a text that is no row.
+#[derive(Clone, Copy, Debug, PartialEq, Eq, Hash)]
+pub enum RowFault<'a> {
+    /// This field, from 1, with these bytes.
+    WrongField {
+        field: u64,
+        column: Column,
+        bytes: &'a [u8],
+    },
+    /// It ended early, behind this field. If it is empty or blank, that is 0, and there is no column.
+    EndedEarly {
+        field: u64,
+        column: Option<Column>,
+        /// What was expected next.
+        next: Column,
+    },
+    /// Whatever it holds: [`MOST_ROWS`] rows stand before it, and no row may follow.
+    TooManyRows,
+}
+
+/// Tells what is wrong with the line at which [`read`] or [`read_to_vec`] refused a text with 7. It reads the lines before
+/// for the version and the number that the row must have.
+///
+/// `None` for any other refusal, and for one that this text does not get.
+///
+/// ```
+/// use bushingowl::{explain_refusal, read_to_vec, Column, RowFault};
+/// let text = b";$FILEVERSION=1.2\r\n;$STARTTIME=36585.5\r\n1) 0.000 1 Rx 0123 2 0A FF\r\n2) 1500.250 2 Tx 18AB0001 9\r\n";
+/// let refused = read_to_vec(text).unwrap_err();
+/// let explanation = explain_refusal(text, refused).unwrap();
+/// assert_eq!((explanation.line, explanation.version, explanation.number), (4, 12, 2));
+/// assert_eq!(explanation.fault, RowFault::WrongField { field: 6, column: Column::Length, bytes: b"9" });
+/// assert_eq!(explanation.to_string(), "field 6 (length) is wrong: \"9\"");
+/// ```
+pub fn explain_refusal(text: &[u8], refused: Refused) -> Option<RowExplanation<'_>> {
+    if refused.reason != Reason::NoRow || read(text, &mut []) != Err(refused) {
+        return None;
+    }
+    let (before, line) = cut(text, refused.place)?;
+    let (trace, _) = read_to_vec(before).ok()?;
+    let number = trace.rows as u64 + 1;
+    let fault = if trace.rows == MOST_ROWS {
+        RowFault::TooManyRows
+    } else {
+        fault_of(line, trace.version, number)?
+    };
+    Some(RowExplanation {
+        line: refused.place,
+        version: trace.version,
+        number,
+        fault,
+    })
+}
+
+/// The lines before a line of a text, and that line without its CR LF.
+fn cut(text: &[u8], line: u64) -> Option<(&[u8], &[u8])> {
+    let lines_before = usize::try_from(line.checked_sub(1)?).ok()?;
+    let mut lines = text.split_inclusive(|byte| *byte == b'\n');
+    let before = lines.by_ref().take(lines_before).map(<[u8]>::len).sum();
+    let line = lines.next()?.strip_suffix(b"\r\n")?;
+    Some((&text[..before], line))
+}
+
+/// What is wrong with a line that is no row.
+fn fault_of(line: &[u8], version: u32, number: u64) -> Option<RowFault<'_>> {
+    let Explanation { reason, field } = explain(line, version, number).ok()?;
+    let fields: Vec<&[u8]> = line
+        .split(|byte| *byte == b' ')
+        .filter(|field| !field.is_empty())
+        .collect();
+    match reason {
+        RowReason::WrongField => {
+            let at = usize::try_from(field.checked_sub(1)?).ok()?;
+            Some(RowFault::WrongField {
+                field,
+                column: Column::behind(version, fields.get(..at)?),
+                bytes: fields.get(at)?,
+            })
+        }
+        RowReason::EndedEarly => Some(RowFault::EndedEarly {
+            field,
+            column: fields
+                .split_last()
+                .map(|(_, before)| Column::behind(version, before).taken()),
+            next: Column::behind(version, &fields),
+        }),
+    }
+}
+
+impl fmt::Display for RowExplanation<'_> {
+    fn fmt(&self, f: &mut fmt::Formatter) -> fmt::Result {
+        let number = self.number;
+        match self.fault {
+            RowFault::WrongField {
+                field,
+                column,
+                bytes,
+            } => {
+                let bytes = Quoted(bytes);
+                match column {
+                    Column::Number => {
+                        write!(
+                            f,
+                            "field {field} ({column}) is wrong: {bytes} instead of \"{number})\""
+                        )
+                    }
+                    Column::End => write!(f, "field {field} is one too many: {bytes}"),
+                    _ => write!(f, "field {field} ({column}) is wrong: {bytes}"),
+                }
+            }
+            RowFault::EndedEarly {
+                column: None, next, ..
+            } => write!(f, "the line is empty: {next} \"{number})\" was expected"),
+            RowFault::EndedEarly {
+                field,
+                column: Some(column),
+                next,
+            } => write!(
+                f,
+                "the row ended early after field {field} ({column}): {next} was expected next"
+            ),
+            RowFault::TooManyRows => {
+                write!(f, "row 999,999 stands before it, and no row may follow")
+            }
+        }
+    }
+}
+
+/// The most bytes of a field that are shown.
+const SHOWN: usize = 40;
+
+/// Bytes in quotes.
+struct Quoted<'a>(&'a [u8]);
+
+impl fmt::Display for Quoted<'_> {
+    fn fmt(&self, f: &mut fmt::Formatter) -> fmt::Result {
+        write!(f, "\"")?;
+        for byte in self.0.iter().take(SHOWN) {
+            if byte.is_ascii_graphic() && !matches!(byte, b'"' | b'\\') {
+                write!(f, "{}", char::from(*byte))?;
+            } else {
+                write!(f, "\\x{byte:02X}")?;
+            }
+        }
+        let cut = if self.0.len() > SHOWN { "..." } else { "" };
+        write!(f, "\"{cut}")
+    }
+}

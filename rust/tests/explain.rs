@@ -1,0 +1,457 @@
+//! What is wrong with a line that is no row. The field numbers come from the rules of the columns, counted by hand.
+
+use bushingowl::{
+    explain, explain_refusal, pack, read, write_to_vec, Column, Explanation, Kind, Reason, Record,
+    Refused, RowExplanation, RowFault, RowReason, MOST_ROWS, MOST_TEXT, RECORD,
+};
+
+const SMALL: &[u8] = include_bytes!("../../samples/small.trc");
+const WRONG_ROW: &[u8] = include_bytes!("../../samples/wrong-row.trc");
+const CUT_OFF: &[u8] = include_bytes!("../../samples/cut-off.trc");
+const PAST_THE_LIMIT: &[u8] = include_bytes!("../../samples/past-the-limit.trc");
+
+fn wrong(field: u64) -> Result<Explanation, Refused> {
+    Ok(Explanation {
+        reason: RowReason::WrongField,
+        field,
+    })
+}
+
+fn early(field: u64) -> Result<Explanation, Refused> {
+    Ok(Explanation {
+        reason: RowReason::EndedEarly,
+        field,
+    })
+}
+
+fn refused(reason: Reason) -> Result<Explanation, Refused> {
+    Err(Refused { reason, place: 0 })
+}
+
+/// Lines 1 and 2 of a text.
+fn head(version: u32) -> String {
+    let digit = version % 10;
+    format!(";$FILEVERSION=1.{digit}\r\n;$STARTTIME=36585.5\r\n")
+}
+
+/// What is said of a text that is refused with 7.
+fn explained(text: &[u8]) -> RowExplanation<'_> {
+    let refused = read(text, &mut []).unwrap_err();
+    assert_eq!(refused.number(), 7);
+    explain_refusal(text, refused).unwrap()
+}
+
+/// Holds lines that are not row 1 of this version to the reason, the field and the words.
+fn hold(version: u32, reason: RowReason, cases: &[(&str, u64, &str)]) {
+    for (line, field, words) in cases {
+        let field = *field;
+        let answer = explain(line.as_bytes(), version, 1);
+        assert_eq!(answer, Ok(Explanation { reason, field }), "{line}");
+        let text = format!("{}{line}\r\n", head(version));
+        let said = explained(text.as_bytes());
+        assert_eq!((said.line, said.version, said.number), (3, version, 1));
+        assert_eq!(said.to_string(), *words, "{line}");
+        let given = match said.fault {
+            RowFault::WrongField { field, .. } => (RowReason::WrongField, field),
+            RowFault::EndedEarly { field, .. } => (RowReason::EndedEarly, field),
+            RowFault::TooManyRows => panic!("{line}"),
+        };
+        assert_eq!(given, (reason, field), "{line}");
+    }
+}
+
+#[test]
+fn a_wrong_field_of_version_12() {
+    #[rustfmt::skip]
+    let cases = [
+        ("2) 0.000 1 Rx 0123 0", 1, r#"field 1 (row number) is wrong: "2)" instead of "1)""#),
+        ("01) 0.000 1 Rx 0123 0", 1, r#"field 1 (row number) is wrong: "01)" instead of "1)""#),
+        ("1 ) 0.000 1 Rx 0123 0", 1, r#"field 1 (row number) is wrong: "1" instead of "1)""#),
+        (" ;", 1, r#"field 1 (row number) is wrong: ";" instead of "1)""#),
+        ("1) 0.0 1 Rx 0123 0", 2, r#"field 2 (offset) is wrong: "0.0""#),
+        ("1) 00.000 1 Rx 0123 0", 2, r#"field 2 (offset) is wrong: "00.000""#),
+        ("1) 100000000000.000 1 Rx 0123 0", 2, r#"field 2 (offset) is wrong: "100000000000.000""#),
+        ("1) 0.000 0 Rx 0123 0", 3, r#"field 3 (bus) is wrong: "0""#),
+        ("1) 0.000 17 Rx 0123 0", 3, r#"field 3 (bus) is wrong: "17""#),
+        ("1) 0.000 Rx 0123 0", 3, r#"field 3 (bus) is wrong: "Rx""#),
+        ("1) 0.000 16 rx 0123 0", 4, r#"field 4 (type) is wrong: "rx""#),
+        ("1) 0.000 16 Warnng FFFFFFFF 4 00 00 00 08", 4, r#"field 4 (type) is wrong: "Warnng""#),
+        ("1) 0.000 1 Rx 123 0", 5, r#"field 5 (ID) is wrong: "123""#),
+        ("1) 0.000 1 Tx 0800 0", 5, r#"field 5 (ID) is wrong: "0800""#),
+        ("1) 0.000 1 Tx 20000000 0", 5, r#"field 5 (ID) is wrong: "20000000""#),
+        ("1) 0.000 1 Warng FFFFFFF 4 00 00 00 08", 5, r#"field 5 (ID) is wrong: "FFFFFFF""#),
+        ("1) 0.000 1 Error 00000001 4 00 02 00 00", 5, r#"field 5 (ID) is wrong: "00000001""#),
+        ("1) 0.000 1 Error 0003 4 00 02 00 00", 5, r#"field 5 (ID) is wrong: "0003""#),
+        ("1) 0.000 1 Rx 07FF 9", 6, r#"field 6 (length) is wrong: "9""#),
+        ("1) 0.000 1 Rx 1FFFFFFF 02 00 00", 6, r#"field 6 (length) is wrong: "02""#),
+        ("1) 0.000 1 Warng ffffFFFF 3 00 00 00", 6, r#"field 6 (length) is wrong: "3""#),
+        ("1) 0.000 1 Error 0008 5 00 02 00 00", 6, r#"field 6 (length) is wrong: "5""#),
+        ("1) 0.000 1 Rx 0123 0 0A", 7, r#"field 7 (RTR or nothing) is wrong: "0A""#),
+        ("1) 0.000 1 Rx 0123 1 A", 7, r#"field 7 (RTR or data byte 1 of 1) is wrong: "A""#),
+        ("1) 0.000 1 Rx 0123 2 rtr", 7, r#"field 7 (RTR or data byte 1 of 2) is wrong: "rtr""#),
+        ("1) 0.000 1 Rx 0123 2 0A RTR", 8, r#"field 8 (data byte 2 of 2) is wrong: "RTR""#),
+        ("1) 0.000 1 Tx 0123 8 0 1 2", 7, r#"field 7 (RTR or data byte 1 of 8) is wrong: "0""#),
+        ("1) 0.000 1 Tx 0123 8 00 11 22 33 44 55 66 7G", 14, r#"field 14 (data byte 8 of 8) is wrong: "7G""#),
+        ("1) 0.000 1 Rx 0123 2 0A FF 00", 9, r#"field 9 is one too many: "00""#),
+        ("1) 0.000 1 Rx 0123 3 RTR 00", 8, r#"field 8 is one too many: "00""#),
+        ("1) 0.000 1 Rx 0123 0 RTR RTR", 8, r#"field 8 is one too many: "RTR""#),
+        ("1) 0.000 1 Warng FFFFFFFF 4 RTR", 7, r#"field 7 (data byte 1 of 4) is wrong: "RTR""#),
+        ("1) 0.000 1 Warng FFFFFFFF 4 00 00 00 WORD", 10, r#"field 10 (data byte 4 of 4) is wrong: "WORD""#),
+        ("1) 0.000 1 Warng FFFFFFFF 4 00 00 00 08 Ab", 11, r#"field 11 (word) is wrong: "Ab""#),
+        ("1) 0.000 1 Warng FFFFFFFF 4 00 00 00 08 AB RTR 08", 13, r#"field 13 (word) is wrong: "08""#),
+        ("1) 0.000 1 Error 0001 4 02 02 00 00", 7, r#"field 7 (data byte 1 of 4) is wrong: "02""#),
+        ("1) 0.000 1 Error 0001 4 RTR", 7, r#"field 7 (data byte 1 of 4) is wrong: "RTR""#),
+        ("1) 0.000 1 Error 0001 4 01 10 00 00", 8, r#"field 8 (data byte 2 of 4) is wrong: "10""#),
+        ("1) 0.000 1 Error 0001 4 01 1C 0", 9, r#"field 9 (data byte 3 of 4) is wrong: "0""#),
+        ("1) 0.000 1 Error 0001 4 01 1C FF )", 10, r#"field 10 (data byte 4 of 4) is wrong: ")""#),
+        ("1) 0.000 1 Error 0001 4 01 1C FF 00 WORD", 11, r#"field 11 is one too many: "WORD""#),
+    ];
+    hold(12, RowReason::WrongField, &cases);
+}
+
+#[test]
+fn a_wrong_field_of_version_11() {
+    #[rustfmt::skip]
+    let cases = [
+        ("0) 0.0 Rx 0123 0", 1, r#"field 1 (row number) is wrong: "0)" instead of "1)""#),
+        ("1) 0.000 Rx 0123 0", 2, r#"field 2 (offset) is wrong: "0.000""#),
+        ("1) 0.0 1 Rx 0123 0", 3, r#"field 3 (type) is wrong: "1""#),
+        ("1) 0.0 Warng FFFF 4 00 00 00 08", 4, r#"field 4 (ID) is wrong: "FFFF""#),
+        ("1) 0.0 Rx 0123 A", 5, r#"field 5 (length) is wrong: "A""#),
+        ("1) 0.0 Rx 0123 0 00", 6, r#"field 6 (RTR or nothing) is wrong: "00""#),
+        ("1) 0.0 Tx 0123 4 000", 6, r#"field 6 (RTR or data byte 1 of 4) is wrong: "000""#),
+        ("1) 0.0 Tx 0123 4 00 00 00 0X", 9, r#"field 9 (data byte 4 of 4) is wrong: "0X""#),
+        ("1) 0.0 Tx 0123 4 00 00 00 00 00", 10, r#"field 10 is one too many: "00""#),
+        ("1) 0.0 Warng FFFFFFFF 4 00 00 00 08 BUSHEAVy", 10, r#"field 10 (word) is wrong: "BUSHEAVy""#),
+        ("1) 0.0 Error 0002 4 01 1D 00 00", 7, r#"field 7 (data byte 2 of 4) is wrong: "1D""#),
+    ];
+    hold(11, RowReason::WrongField, &cases);
+}
+
+#[test]
+fn a_row_of_version_12_that_ended_early() {
+    #[rustfmt::skip]
+    let cases = [
+        ("", 0, r#"the line is empty: row number "1)" was expected"#),
+        ("   ", 0, r#"the line is empty: row number "1)" was expected"#),
+        ("1)", 1, "the row ended early after field 1 (row number): offset was expected next"),
+        ("1) 0.000 ", 2, "the row ended early after field 2 (offset): bus was expected next"),
+        (" 1)  0.000  1", 3, "the row ended early after field 3 (bus): type was expected next"),
+        ("1) 0.000 1 Rx", 4, "the row ended early after field 4 (type): ID was expected next"),
+        ("1) 0.000 1 Warng FFFFFFFF", 5, "the row ended early after field 5 (ID): length was expected next"),
+        ("1) 0.000 1 Rx 0123 2", 6, "the row ended early after field 6 (length): RTR or data byte 1 of 2 was expected next"),
+        ("1) 0.000 1 Rx 0123 2 0A", 7, "the row ended early after field 7 (data byte 1 of 2): data byte 2 of 2 was expected next"),
+        ("1) 0.000 1 Tx 0123 8 00 11 22 33 44 55 66", 13, "the row ended early after field 13 (data byte 7 of 8): data byte 8 of 8 was expected next"),
+        ("1) 0.000 1 Warng FFFFFFFF 4", 6, "the row ended early after field 6 (length): data byte 1 of 4 was expected next"),
+        ("1) 0.000 1 Warng FFFFFFFF 4 00 00 00", 9, "the row ended early after field 9 (data byte 3 of 4): data byte 4 of 4 was expected next"),
+        ("1) 0.000 1 Error 0001 4 01", 7, "the row ended early after field 7 (data byte 1 of 4): data byte 2 of 4 was expected next"),
+    ];
+    hold(12, RowReason::EndedEarly, &cases);
+}
+
+#[test]
+fn a_row_of_version_11_that_ended_early() {
+    #[rustfmt::skip]
+    let cases = [
+        ("", 0, r#"the line is empty: row number "1)" was expected"#),
+        ("1)", 1, "the row ended early after field 1 (row number): offset was expected next"),
+        ("1) 0.0", 2, "the row ended early after field 2 (offset): type was expected next"),
+        ("1) 0.0 Error", 3, "the row ended early after field 3 (type): ID was expected next"),
+        ("1) 0.0 Error 0004", 4, "the row ended early after field 4 (ID): length was expected next"),
+        ("1) 0.0 Error 0004 4", 5, "the row ended early after field 5 (length): data byte 1 of 4 was expected next"),
+        ("1) 0.0 Tx 0123 1", 5, "the row ended early after field 5 (length): RTR or data byte 1 of 1 was expected next"),
+        ("1) 0.0 Tx 0123 3 00 00", 7, "the row ended early after field 7 (data byte 2 of 3): data byte 3 of 3 was expected next"),
+    ];
+    hold(11, RowReason::EndedEarly, &cases);
+}
+
+#[test]
+fn nothing_to_explain() {
+    let lines = [
+        "1) 0.000 1 Rx 0123 2 0A FF",
+        "  1)  99999999999.999 16 Tx 1fffffff 8 RTR ",
+        "1) 0.000 1 Rx 0123 0",
+        "1) 0.000 1 Warng ffffffff 4 00 00 00 08 AB RTR",
+        "1) 0.000 1 Error 0008 4 01 1C 00 FF",
+        ";",
+        ";  a comment",
+        "; \t$",
+        "1) 0.000 17 Rx 0123 0\r",
+        "x\n",
+        "\r\n",
+    ];
+    for line in lines {
+        let answer = explain(line.as_bytes(), 12, 1);
+        assert_eq!(answer, refused(Reason::Unexplained), "{line}");
+    }
+    // What is a row of one version and number is none of another.
+    assert_eq!(explain(lines[0].as_bytes(), 12, 2), wrong(1));
+    assert_eq!(explain(lines[0].as_bytes(), 11, 1), wrong(2));
+    // With $ first it is no comment.
+    assert_eq!(explain(b";$x", 12, 1), wrong(1));
+    assert_eq!(explain(b"; $x", 12, 1), wrong(1));
+}
+
+#[test]
+fn numbers_and_versions_at_their_limits() {
+    let row = |number: u64| format!("{number}) 0.0 Rx 0123 0");
+    for number in [1, 9, 10, 999_999] {
+        let row = row(number);
+        let answer = explain(row.as_bytes(), 11, number);
+        assert_eq!(answer, refused(Reason::Unexplained));
+        let answer = explain(&row.as_bytes()[..row.len() - 1], 11, number);
+        assert_eq!(answer, early(4));
+    }
+    for number in [0, 1_000_000, u64::MAX] {
+        for line in [row(number), "".to_string(), "x".to_string()] {
+            let answer = explain(line.as_bytes(), 11, number);
+            assert_eq!(answer, refused(Reason::Unexplained));
+        }
+    }
+    for version in [0, 1, 10, 13, 20, u32::MAX] {
+        for number in [0, 1, u64::MAX] {
+            let answer = explain(b"\r", version, number);
+            assert_eq!(answer, refused(Reason::NoVersion));
+        }
+    }
+}
+
+#[test]
+fn lines_of_any_length() {
+    let long = |part: &str| part.repeat(100_000 / part.len());
+    let warning = "1) 0.000 1 Warng FFFFFFFF 4 00 00 00 08 ";
+    let blanks = long(" ");
+    let unexplained = refused(Reason::Unexplained);
+    let cases = [
+        // As many blanks as one likes, and words.
+        (format!("1){blanks}0.000 1 Rx 0123 0"), unexplained),
+        (format!("1){blanks}0.000 1 Rx 0123 1"), early(6)),
+        (format!("{blanks}2)"), wrong(1)),
+        (blanks, early(0)),
+        (format!("{warning}{}", long("A")), unexplained),
+        (format!("{warning}{}a", long("Z")), wrong(11)),
+        (format!("{warning}a{}", long("Z")), wrong(11)),
+        (format!("{warning}{}", long("WORD ")), unexplained),
+        (
+            format!("{warning}{}@", long("WORD ")),
+            wrong(10 + 20_000 + 1),
+        ),
+        // No other field is long.
+        (long("1"), wrong(1)),
+        (format!("1) {}.000 1 Rx 0123 0", long("1")), wrong(2)),
+        (format!("1) 0.000 {} Rx 0123 0", long("1")), wrong(3)),
+        (format!("1) 0.000 1 {} 0123 0", long("Rx")), wrong(4)),
+        (format!("1) 0.000 1 Rx {} 0", long("0")), wrong(5)),
+        (format!("1) 0.000 1 Rx 0123 {}", long("0")), wrong(6)),
+        (format!("1) 0.000 1 Rx 0123 1 {}", long("A")), wrong(7)),
+        (
+            format!("1) 0.000 1 Error 0001 4 00 02 00 00 {}", long("A")),
+            wrong(11),
+        ),
+        (format!(";{}", long("$")), wrong(1)),
+        (format!("; {}", long("x$")), unexplained),
+        (format!("{}\n", long("x")), unexplained),
+    ];
+    for (line, answer) in cases {
+        assert_eq!(explain(line.as_bytes(), 12, 1), answer, "{}", &line[..60]);
+    }
+}
+
+#[test]
+fn a_long_line_takes_no_more_stack() {
+    let line = format!(
+        "1) 0.0 Warng FFFFFFFF 4 00 00 00 08 {}a",
+        "A ".repeat(5_000_000)
+    );
+    let small = std::thread::Builder::new().stack_size(64 * 1024);
+    let thread = small.spawn(move || explain(line.as_bytes(), 11, 1));
+    assert_eq!(thread.unwrap().join().unwrap(), wrong(9 + 5_000_000 + 1));
+}
+
+#[test]
+fn the_line_of_a_refusal() {
+    let said = explained(WRONG_ROW);
+    let fault = RowFault::EndedEarly {
+        field: 6,
+        column: Some(Column::Length),
+        next: Column::FirstOrRemote { of: 1 },
+    };
+    let expected = RowExplanation {
+        line: 4,
+        version: 12,
+        number: 2,
+        fault,
+    };
+    assert_eq!(said, expected);
+    let words =
+        "the row ended early after field 6 (length): RTR or data byte 1 of 1 was expected next";
+    assert_eq!(said.to_string(), words);
+}
+
+#[test]
+fn comments_count_as_lines_and_not_as_rows() {
+    let text = format!(
+        "{};\r\n1) 0.0 Rx 0123 0\r\n; 2)\r\n\
+         2) 0.0 Warng FFFFFFFF 4 00 00 00 08 WORD\r\n;\r\n  4) 0.0 Rx 0123 0\r\nx",
+        head(11)
+    );
+    let fault = RowFault::WrongField {
+        field: 1,
+        column: Column::Number,
+        bytes: b"4)",
+    };
+    let expected = RowExplanation {
+        line: 8,
+        version: 11,
+        number: 3,
+        fault,
+    };
+    assert_eq!(explained(text.as_bytes()), expected);
+}
+
+#[test]
+fn bytes_in_words() {
+    let long = "0".repeat(40);
+    let cases = [
+        (&b"\t"[..], r#""\x09""#.to_string()),
+        (b"\0\x7F\x80\xFF", r#""\x00\x7F\x80\xFF""#.to_string()),
+        (b"!\"\\'~", r#""!\x22\x5C'~""#.to_string()),
+        ("ü".as_bytes(), r#""\xC3\xBC""#.to_string()),
+        (long.as_bytes(), format!("\"{long}\"")),
+    ];
+    for (field, words) in cases {
+        let text = [head(12).as_bytes(), b"1) ", field, b" \r\n"].concat();
+        let said = explained(&text);
+        let column = Column::Offset;
+        let expected = RowFault::WrongField {
+            field: 2,
+            column,
+            bytes: field,
+        };
+        assert_eq!(said.fault, expected);
+        let words = format!("field 2 (offset) is wrong: {words}");
+        assert_eq!(said.to_string(), words);
+    }
+    let text = format!("{}1) {long}1\r\n", head(12));
+    let words = format!("field 2 (offset) is wrong: \"{long}\"...");
+    assert_eq!(explained(text.as_bytes()).to_string(), words);
+    let text = format!("{}{long}1)\r\n", head(12));
+    let words = format!("field 1 (row number) is wrong: \"{long}\"... instead of \"1)\"");
+    assert_eq!(explained(text.as_bytes()).to_string(), words);
+}
+
+#[test]
+fn only_the_refusal_7_of_this_text() {
+    let no_row = |place| Refused {
+        reason: Reason::NoRow,
+        place,
+    };
+    for reason in Reason::ALL {
+        for place in [0, 1, 2, 3, 4, 5, 6, u64::MAX] {
+            let said = explain_refusal(WRONG_ROW, Refused { reason, place });
+            assert_eq!(said.is_some(), reason == Reason::NoRow && place == 4);
+        }
+    }
+    for text in [CUT_OFF, PAST_THE_LIMIT, b"", b"\r\n\r\n\r\n", b"\n\n\n"] {
+        let own = read(text, &mut []).unwrap_err();
+        assert_eq!(explain_refusal(text, own), None);
+        for place in 0..8 {
+            assert_eq!(explain_refusal(text, no_row(place)), None);
+        }
+    }
+    for place in [0, 3, 5, 6] {
+        assert_eq!(explain_refusal(SMALL, no_row(place)), None);
+    }
+    // Lines that are refused for something else: not ended, too long, a comment with $ first.
+    let long = format!("{}\r\n", "x".repeat(251));
+    for line in [
+        "x",
+        "x\r",
+        "x\n",
+        "x\rx\r\n",
+        &long,
+        "; $x\r\n",
+        "1) 0.000 1 Rx 0123 0\r\n",
+    ] {
+        let text = format!("{}{line}", head(12));
+        assert_eq!(explain_refusal(text.as_bytes(), no_row(3)), None, "{line}");
+    }
+    let mut above = vec![0; MOST_TEXT + 1];
+    above[..WRONG_ROW.len()].copy_from_slice(WRONG_ROW);
+    assert_eq!(explain_refusal(&above, no_row(4)), None);
+    assert!(explain_refusal(&above[..MOST_TEXT], no_row(4)).is_some());
+}
+
+#[test]
+fn after_the_last_row() {
+    let record = Record {
+        offset: 0,
+        bus: 0,
+        kind: Kind::DataReceived,
+        extended: false,
+        id: 0,
+        length: 0,
+        data: [0; 8],
+    };
+    let mut packed = [0; RECORD];
+    pack(&record, &mut packed).unwrap();
+    let mut text = write_to_vec(11, 0, &packed.repeat(MOST_ROWS)).unwrap();
+    text.extend(b";\r\n");
+    let end = text.len();
+    for line in ["1000000) 0.0 Rx 0000 0", "999999) 0.0 Rx 0000 0", "", "x"] {
+        text.truncate(end);
+        text.extend(line.as_bytes());
+        text.extend(b"\r\n");
+        let said = explained(&text);
+        let expected = RowExplanation {
+            line: 1_000_003,
+            version: 11,
+            number: 1_000_000,
+            fault: RowFault::TooManyRows,
+        };
+        assert_eq!(said, expected);
+        assert_eq!(
+            said.to_string(),
+            "row 999,999 stands before it, and no row may follow"
+        );
+    }
+}
+
+/// Every byte of a text changed in turn: a refusal 7 is always explained, and nothing else is.
+#[test]
+fn whatever_the_bytes_are() {
+    let rows = "1) 0.0 Rx 0123 2 0A FF\r\n; x\r\n2) 1.5 Tx 18AB0001 1 RTR\r\n\
+        3) 1.5 Warng FFFFFFFF 4 00 00 00 08 BUSHEAVY\r\n4) 2.5 Error 0001 4 01 02 00 00\r\n";
+    let text = [head(11).as_bytes(), rows.as_bytes()].concat();
+    let mut sevens = 0;
+    for at in 0..text.len() {
+        for byte in [
+            0, b'\t', b'\n', b'\r', b' ', b'$', b')', b'.', b'0', b'8', b';', b'A', b'a', 0xFF,
+        ] {
+            let mut text = text.clone();
+            text[at] = byte;
+            let own = read(&text, &mut []).unwrap_err();
+            let said = explain_refusal(&text, own);
+            assert_eq!(said.is_some(), own.number() == 7);
+            let Some(said) = said else { continue };
+            sevens += 1;
+            assert!(said.to_string().is_ascii());
+            let line = text
+                .split(|byte| *byte == b'\n')
+                .nth(own.place as usize - 1);
+            let line = line.unwrap().strip_suffix(b"\r").unwrap();
+            let fields: Vec<&[u8]> = line
+                .split(|byte| *byte == b' ')
+                .filter(|field| !field.is_empty())
+                .collect();
+            match said.fault {
+                RowFault::WrongField { field, bytes, .. } => {
+                    assert_eq!(fields[field as usize - 1], bytes)
+                }
+                RowFault::EndedEarly { field, .. } => assert_eq!(fields.len() as u64, field),
+                RowFault::TooManyRows => panic!(),
+            }
+        }
+    }
+    assert!(sevens > 1000, "{sevens}");
+}
