@@ -2,8 +2,6 @@
 
 use std::hint::black_box;
 
-extern crate bushingowl;
-
 extern "C" {
     fn bo_explain(line: *const u8, line_len: usize, version: u32, number: u64, answer: *mut u64);
 }

@@ -6,6 +6,7 @@ use super::{shown, Difference};
 use crate::inputs::lines::LAST_NUMBER;
 use crate::inputs::random::Random;
 use crate::inputs::records::Fields;
+use bushingowl::{explain_refusal, Reason, Refused, RowFault};
 use bushingowl::{LEAST_ROW, MOST_HEADER, MOST_LINE, MOST_ROW, RECORD};
 
 pub struct Runs {
@@ -203,6 +204,7 @@ impl Runs {
     }
 
     /// Explains the line at which a text was refused with 7. It can't be refused, unless it follows the last row that there may be.
+    /// The crate, which finds line, version and number itself, must say the same.
     fn explain_refused(&mut self, text: &[u8], place: u64) -> Result<(), Difference> {
         let mut lines = text.split(|&b| b == b'\n');
         let first = lines.next().unwrap_or_default().trim_ascii_end();
@@ -212,11 +214,16 @@ impl Runs {
         let line = lines.next().and_then(|line| line.strip_suffix(b"\r"));
         let line = line.unwrap_or_default();
         let kind = "explain: line refused with 7";
-        let [refused, ..] = self.explain(kind, line, version, number, None)?;
-        let expected = if number <= LAST_NUMBER { 0 } else { 30 };
-        match refused == expected {
+        let answer = self.explain(kind, line, version, number, None)?;
+        if (answer[0] == 0) != (number <= LAST_NUMBER) {
+            return Err(self.wrong("a line that was refused with 7 is not explained", text));
+        }
+        let reason = Reason::NoRow;
+        let said = explain_refusal(text, Refused { reason, place });
+        let said = said.map(|said| (said.line, said.version, said.number, numbers(&said.fault)));
+        match said == Some((place, version, number, answer)) {
             true => Ok(()),
-            false => Err(self.wrong("a line that was refused with 7 is not explained", text)),
+            false => Err(self.wrong(&format!("{answer:?} is not what the crate says"), text)),
         }
     }
 
@@ -232,5 +239,14 @@ impl Runs {
             what: format!("library and expert agree, but: {what}"),
             input: shown(input),
         }
+    }
+}
+
+/// The numbers of what the crate says of a line.
+fn numbers(fault: &RowFault) -> [u64; 4] {
+    match *fault {
+        RowFault::WrongField { field, .. } => [0, 0, 1, field],
+        RowFault::EndedEarly { field, .. } => [0, 0, 2, field],
+        RowFault::TooManyRows => [30, 0, 0, 0],
     }
 }

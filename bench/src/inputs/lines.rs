@@ -81,8 +81,7 @@ impl RowFields {
     /// The row up to each of its bytes, without the others.
     pub fn cut(&self, random: &mut Random) -> Vec<Vec<u8>> {
         let line = joined(random, &self.fields);
-        let most = line.len().min(150);
-        (0..=most).map(|end| line[..end].to_vec()).collect()
+        (0..=line.len()).map(|end| line[..end].to_vec()).collect()
     }
 
     /// Odd bytes in the row, in place of a byte or beside it, in and between its fields and at its ends.
