@@ -11,6 +11,8 @@ use std::thread;
 use std::time::Duration;
 
 const BYTES: [usize; 4] = [12_500_000, 25_000_000, 50_000_000, 100_000_000];
+/// The fewest bytes behind the row, so that some words fit.
+const LEAST: usize = 100;
 /// The stack on which both run.
 const STACK: usize = 64 * 1024;
 const TURNS: usize = 5;
@@ -19,9 +21,9 @@ const ROW: &[u8] = b"1) 0.000 1 Warng FFFFFFFF 4 00 00 00 08";
 const FIELDS: u64 = 10;
 
 fn main() -> ExitCode {
-    let words = std::env::args().skip(1).map(|word| word.parse());
-    let Ok(mut sizes) = words.collect::<Result<Vec<usize>, _>>() else {
-        eprintln!("long_line [BYTES...]");
+    let words = std::env::args().skip(1);
+    let Some(mut sizes) = words.map(|word| bytes(&word)).collect::<Option<Vec<_>>>() else {
+        eprintln!("long_line [BYTES...], each at least {LEAST}");
         return ExitCode::from(2);
     };
     if sizes.is_empty() {
@@ -53,6 +55,11 @@ fn main() -> ExitCode {
         }
     }
     ExitCode::SUCCESS
+}
+
+/// The bytes that a word asks for.
+fn bytes(word: &str) -> Option<usize> {
+    word.parse().ok().filter(|&bytes| bytes >= LEAST)
 }
 
 /// Has the line explained by turns, and prints the best of each in processor time.
