@@ -1,12 +1,17 @@
 //! Compares the library with the expert: `compare [INPUTS [SEED]]`.
 
+use bushingowl_bench::compare::every_field::every_field;
 use bushingowl_bench::compare::inputs::one_input;
 use bushingowl_bench::compare::limits::limits;
+use bushingowl_bench::compare::lines::one_row;
+use bushingowl_bench::compare::long_lines::long_lines;
 use bushingowl_bench::compare::runs::Runs;
 use bushingowl_bench::compare::Difference;
 use std::process::ExitCode;
 
 const INPUTS: u64 = 1_000_000;
+/// A row whose lines are explained, some hundreds, comes with so many inputs.
+const INPUTS_A_ROW: u64 = 100;
 const SEED: u64 = 20_261_115;
 
 fn main() -> ExitCode {
@@ -25,7 +30,16 @@ fn main() -> ExitCode {
             return differs(&format!("input {input}"), &difference);
         }
     }
-    println!("{inputs} inputs at random done, now the size limits");
+    println!("{inputs} inputs at random done, now the lines to be explained");
+    for row in 1..=inputs.div_ceil(INPUTS_A_ROW) {
+        if let Err(difference) = one_row(&mut runs) {
+            return differs(&format!("lines of row {row}"), &difference);
+        }
+    }
+    if let Err(difference) = every_field(&mut runs).and_then(|()| long_lines(&mut runs)) {
+        return differs("short fields and long lines", &difference);
+    }
+    println!("lines done, now the size limits");
     if let Err(difference) = limits(&mut runs) {
         return differs("size limits", &difference);
     }

@@ -1,6 +1,7 @@
 //! One call of the library and of the expert on equal buffers; all that they leave behind is compared.
 
 use super::{shown, Difference};
+use crate::boundary;
 use crate::expert;
 use crate::inputs::random::Random;
 use crate::inputs::records::Fields;
@@ -119,6 +120,31 @@ impl Both {
                 what: format!("packing into {room} bytes: {what}"),
                 input: format!("{fields:?}"),
             })
+    }
+
+    pub fn explain(
+        &mut self,
+        line: &[u8],
+        version: u32,
+        number: u64,
+    ) -> Result<[u64; 4], Difference> {
+        let before = self.random.number();
+        let unchanged = Cell::new(true);
+        let library = |line: &[u8], _: &mut [u8]| {
+            let answer = boundary::explain(line, version, number, before);
+            unchanged.set(answer.is_some());
+            answer.unwrap_or_default()
+        };
+        let expert = |line: &[u8], _: &mut [u8]| expert::explain(line, version, number);
+        let answer = self.run(line, 0, library, expert, |_| 0);
+        match unchanged.get() {
+            true => answer,
+            false => Err("the library changed numbers around its answer".to_string()),
+        }
+        .map_err(|what| Difference {
+            what: format!("explaining version {version}, number {number}: {what}"),
+            input: shown(line),
+        })
     }
 
     /// Both calls. `written` gives the bytes that an accepted call has written, by its answer.

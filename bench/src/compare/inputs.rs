@@ -1,14 +1,12 @@
 //! One input at random, of any kind.
 
 use super::runs::Runs;
-use super::Difference;
+use super::Checked;
 use crate::inputs::damage::{damage, damage_records};
 use crate::inputs::random::Random;
 use crate::inputs::records::{changed, packed, packed_all, record};
 use crate::inputs::spelling::Spelled;
 use crate::inputs::{noise, LAST_START};
-
-type Checked = Result<(), Difference>;
 
 pub fn one_input(runs: &mut Runs) -> Checked {
     match runs.random.below(20) {

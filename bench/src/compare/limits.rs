@@ -1,7 +1,7 @@
 //! The largest inputs, and those one past them.
 
 use super::runs::Runs;
-use super::Difference;
+use super::{Checked, Difference};
 use crate::inputs::records::{record, Fields};
 use crate::inputs::spelling::Spelled;
 use crate::inputs::style::Style;
@@ -12,8 +12,6 @@ const MOST_ROWS: usize = 999_999;
 /// The most bytes of a line with its end.
 const LONGEST_LINE: usize = 252;
 const KIND: &str = "size limits";
-
-type Checked = Result<(), Difference>;
 
 pub fn limits(runs: &mut Runs) -> Checked {
     for version in [11, 12] {

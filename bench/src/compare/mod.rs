@@ -1,8 +1,11 @@
 //! The library and the expert on the same inputs.
 
 mod both;
+pub mod every_field;
 pub mod inputs;
 pub mod limits;
+pub mod lines;
+pub mod long_lines;
 pub mod runs;
 mod tally;
 
@@ -11,6 +14,8 @@ pub struct Difference {
     pub what: String,
     pub input: String,
 }
+
+type Checked = Result<(), Difference>;
 
 /// The most bytes of an input that are shown.
 const SHOWN: usize = 400;

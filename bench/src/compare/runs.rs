@@ -3,8 +3,10 @@
 use super::both::Both;
 use super::tally::Tally;
 use super::{shown, Difference};
+use crate::inputs::lines::LAST_NUMBER;
 use crate::inputs::random::Random;
 use crate::inputs::records::Fields;
+use bushingowl::{explain_refusal, Reason, Refused, RowFault};
 use bushingowl::{LEAST_ROW, MOST_HEADER, MOST_LINE, MOST_ROW, RECORD};
 
 pub struct Runs {
@@ -32,11 +34,14 @@ impl Runs {
         let most = (text.len() / LEAST_ROW + 1) * RECORD;
         let answer = self.both.read(text, most)?;
         self.tally.count(kind, answer[0]);
-        let [number, _, version, start, rows, _] = answer;
+        let [number, place, version, start, rows, _] = answer;
         let exact = rows as usize * RECORD;
         let records = self.both.output(exact).to_vec();
         if known.is_some_and(|(known, bytes)| known != answer || bytes != records) {
             return Err(self.wrong("not what the text spells", text));
+        }
+        if number == 7 {
+            self.explain_refused(text, place)?;
         }
         let room = self.other_room(exact);
         let again = self.both.read(text, room)?;
@@ -139,6 +144,89 @@ impl Runs {
         Ok(())
     }
 
+    /// Explains a line as the row with a number. What must come of it may be known.
+    pub fn explain(
+        &mut self,
+        kind: &'static str,
+        line: &[u8],
+        version: u32,
+        number: u64,
+        known: Option<[u64; 4]>,
+    ) -> Result<[u64; 4], Difference> {
+        let answer = self.both.explain(line, version, number)?;
+        self.tally.count(kind, answer[0]);
+        if known.is_some_and(|known| known != answer) {
+            return Err(self.wrong(&format!("{answer:?} is not what is wrong"), line));
+        }
+        if let [0, 0, reason, field] = answer {
+            self.tally.explained(reason, field);
+            self.beginnings(line, version, number, reason, field)?;
+        }
+        Ok(answer)
+    }
+
+    /// The fields before the wrong one must be a row or have ended early, and with it they must be wrong there. All fields of a line
+    /// that ended early are good, and so are all but the last.
+    fn beginnings(
+        &mut self,
+        line: &[u8],
+        version: u32,
+        number: u64,
+        reason: u64,
+        field: u64,
+    ) -> Result<(), Difference> {
+        let fields: Vec<&[u8]> = line
+            .split(|&b| b == b' ')
+            .filter(|f| !f.is_empty())
+            .collect();
+        // With a blank first, none of these is a comment.
+        let first = |count: u64| [b" ", &*fields[..count as usize].join(&b' ')].concat();
+        match reason {
+            1 if (1..=fields.len() as u64).contains(&field) => {
+                let again = self.both.explain(&first(field), version, number)?;
+                self.tally.count("explain: up to the wrong field", again[0]);
+                if again != [0, 0, 1, field] {
+                    return Err(self.wrong("other fields behind it change the answer", line));
+                }
+            }
+            2 if field == fields.len() as u64 => {}
+            _ => return Err(self.wrong("the line has no such field", line)),
+        }
+        if field > 0 {
+            let before = self.both.explain(&first(field - 1), version, number)?;
+            self.tally
+                .count("explain: up to the field before", before[0]);
+            if before != [0, 0, 2, field - 1] && before != [30, 0, 0, 0] {
+                return Err(self.wrong("the fields before are not good", line));
+            }
+        }
+        Ok(())
+    }
+
+    /// Explains the line at which a text was refused with 7. It can't be refused, unless it follows the last row that there may be.
+    /// The crate, which finds line, version and number itself, must say the same.
+    fn explain_refused(&mut self, text: &[u8], place: u64) -> Result<(), Difference> {
+        let mut lines = text.split(|&b| b == b'\n');
+        let first = lines.next().unwrap_or_default().trim_ascii_end();
+        let version = if first.ends_with(b"1.1") { 11 } else { 12 };
+        let before = lines.by_ref().take(place as usize - 2).skip(1);
+        let number = 1 + before.filter(|line| line[0] != b';').count() as u64;
+        let line = lines.next().and_then(|line| line.strip_suffix(b"\r"));
+        let line = line.unwrap_or_default();
+        let kind = "explain: line refused with 7";
+        let answer = self.explain(kind, line, version, number, None)?;
+        if (answer[0] == 0) != (number <= LAST_NUMBER) {
+            return Err(self.wrong("a line that was refused with 7 is not explained", text));
+        }
+        let reason = Reason::NoRow;
+        let said = explain_refusal(text, Refused { reason, place });
+        let said = said.map(|said| (said.line, said.version, said.number, numbers(&said.fault)));
+        match said == Some((place, version, number, answer)) {
+            true => Ok(()),
+            false => Err(self.wrong(&format!("{answer:?} is not what the crate says"), text)),
+        }
+    }
+
     /// Room for an output of known length: just enough, one short, none, or more.
     fn other_room(&mut self, exact: usize) -> usize {
         let more = exact + self.random.between(1, 100);
@@ -151,5 +239,14 @@ impl Runs {
             what: format!("library and expert agree, but: {what}"),
             input: shown(input),
         }
+    }
+}
+
+/// The numbers of what the crate says of a line.
+fn numbers(fault: &RowFault) -> [u64; 4] {
+    match *fault {
+        RowFault::WrongField { field, .. } => [0, 0, 1, field],
+        RowFault::EndedEarly { field, .. } => [0, 0, 2, field],
+        RowFault::TooManyRows => [30, 0, 0, 0],
     }
 }

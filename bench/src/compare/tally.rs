@@ -1,44 +1,74 @@
 //! How many calls of each kind there were, and with which answers.
 
 use std::collections::BTreeMap;
+use std::ops::RangeInclusive;
 
 /// The numbers that must be seen.
-const NUMBERS: [u64; 15] = [0, 1, 2, 3, 4, 5, 6, 7, 8, 20, 21, 22, 23, 24, 25];
+const NUMBERS: [u64; 16] = [0, 1, 2, 3, 4, 5, 6, 7, 8, 20, 21, 22, 23, 24, 25, 30];
+/// The fields that must be seen as wrong, the last with all behind it, and those after which a line must have ended early.
+const WRONG: RangeInclusive<usize> = 1..=15;
+const EARLY: RangeInclusive<usize> = 0..=13;
 
 /// How often each number was given.
 type Counts = [u64; NUMBERS.len()];
 
 #[derive(Default)]
-pub struct Tally(BTreeMap<&'static str, Counts>);
+pub struct Tally {
+    kinds: BTreeMap<&'static str, Counts>,
+    /// How often each field was given with each of the two reasons.
+    fields: [[u64; 16]; 2],
+}
 
 impl Tally {
     pub fn count(&mut self, kind: &'static str, number: u64) {
-        let counts = self.0.entry(kind).or_default();
+        let counts = self.kinds.entry(kind).or_default();
         if let Some(column) = NUMBERS.iter().position(|&n| n == number) {
             counts[column] += 1;
         }
     }
 
-    /// The numbers that were never given.
-    pub fn unseen(&self) -> Vec<u64> {
-        let sums = self.sums();
-        let unseen = NUMBERS.iter().zip(sums).filter(|(_, sum)| *sum == 0);
-        unseen.map(|(number, _)| *number).collect()
+    pub fn explained(&mut self, reason: u64, field: u64) {
+        let field = field.min(*WRONG.end() as u64) as usize;
+        if let Some(fields) = self.fields.get_mut(reason as usize - 1) {
+            fields[field] += 1;
+        }
+    }
+
+    /// The numbers, and the fields with each reason, that were never given.
+    pub fn unseen(&self) -> Vec<String> {
+        let [wrong, early] = self.fields;
+        let numbers = NUMBERS.iter().zip(self.sums());
+        let numbers = numbers.filter(|(_, sum)| *sum == 0);
+        let numbers = numbers.map(|(number, _)| number.to_string());
+        let wrong = WRONG.filter(|&field| wrong[field] == 0);
+        let wrong = wrong.map(|field| format!("wrong field {field}"));
+        let early = EARLY.filter(|&field| early[field] == 0);
+        let early = early.map(|field| format!("ended early after field {field}"));
+        numbers.chain(wrong).chain(early).collect()
     }
 
     pub fn print(&self) {
         let names = NUMBERS[1..].iter().map(|number| number.to_string());
         let head = ["calls".to_string(), "accepted".to_string()];
         print_row("", head.into_iter().chain(names));
-        for (kind, counts) in &self.0 {
+        for (kind, counts) in &self.kinds {
             print_counts(kind, counts);
         }
         print_counts("all", &self.sums());
+        let last = WRONG.end();
+        let names = (0..*last).map(|field| field.to_string());
+        let names = names.chain([format!("{last} on")]);
+        print_row(
+            "explained by field",
+            ["calls".to_string()].into_iter().chain(names),
+        );
+        print_counts("wrong", &self.fields[0]);
+        print_counts("ended early after it", &self.fields[1]);
     }
 
     fn sums(&self) -> Counts {
         let mut sums = Counts::default();
-        for counts in self.0.values() {
+        for counts in self.kinds.values() {
             for (sum, count) in sums.iter_mut().zip(counts) {
                 *sum += count;
             }

@@ -6,7 +6,10 @@
 
 mod clock;
 mod cursor;
+mod explain;
 mod export;
+#[cfg(test)]
+mod meaning;
 mod pen;
 mod reader;
 mod record;
@@ -16,6 +19,7 @@ mod tables;
 mod tests;
 mod writer;
 
+pub use explain::explain;
 pub use export::export;
 pub use reader::read;
 pub use record::{pack, unpack};

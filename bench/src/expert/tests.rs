@@ -1,6 +1,6 @@
-//! The small trace of the paper, and its limits that are spelled in a row.
+//! The small trace of the paper, its limits that are spelled in a row, and what is wrong with lines that are none.
 
-use super::{export, read, write, RECORD};
+use super::{explain, export, read, write, RECORD};
 
 const TEXT: &str = ";$FILEVERSION=1.2\r\n;$STARTTIME=36585.5\r\n\
     1) 0.000 1 Rx 0123 2 0A FF\r\n\
@@ -65,4 +65,253 @@ fn limits_of_a_row() {
 fn number_of(row: &str) -> u64 {
     let text = format!(";$FILEVERSION=1.2\r\n;$STARTTIME=0.0\r\n{row}\r\n");
     read(text.as_bytes(), &mut [0; RECORD])[0]
+}
+
+const ROW: [u64; 4] = [30, 0, 0, 0];
+
+fn wrong(field: u64) -> [u64; 4] {
+    [0, 0, 1, field]
+}
+
+fn early(field: u64) -> [u64; 4] {
+    [0, 0, 2, field]
+}
+
+/// The answer for row 7 of version 1.2.
+fn seventh(line: &str) -> [u64; 4] {
+    explain(line.as_bytes(), 12, 7)
+}
+
+#[test]
+fn fields_in_turn() {
+    // Each field of each kind: others that may stand there, and others that may not.
+    let number = ("7)", "7)", "6)|8)|07)|7|)|7))|7).|77)|0)|-7)|+7)|1)|7]");
+    let offset = (
+        "0.000",
+        "0.000|9.999|99999999999.999|4294967296.000",
+        "0.0|0.00|0.0000|.000|00.000|01.000|0,000|0.|0|100000000000.000|0.00A|A.000|-0.000|0.000.",
+    );
+    let bus = ("1", "1|2|9|10|16", "0|01|17|20|100|1.|A|-1|256");
+    let frame_id = (
+        "0123",
+        "0000|07FF|07ff|00000000|000007FF|1FFFFFFF|1fffFFFF",
+        "0800|FFFF|123|00123|0000123|000000123|20000000|FFFFFFFF|012G|0x12|012.|\u{e9}12",
+    );
+    let byte = (
+        "0A",
+        "00|FF|ff|fF|a0",
+        "0|000|G0|0G|0x|0.|RT|RTR0|-1|@0|0`|0g",
+    );
+    let four = ("4", "4", "0|3|5|8|04|4.|40|RTR");
+    let first_byte = ("0A", "00|FF|RTR", "0|000|G0|rtr|RTR0|RT|AB0");
+    let columns: &[&[(&str, &str, &str)]] = &[
+        &[
+            number,
+            offset,
+            bus,
+            (
+                "Rx",
+                "Rx|Tx",
+                "rx|RX|R|Rxx|tx|Warn|Warnng|warng|Warng.|error|ERROR|Errors|RTR|0|x",
+            ),
+            frame_id,
+            ("2", "1|2|3|8", "9|02|2.|A|-|22|RTR"),
+            first_byte,
+            byte,
+        ],
+        &[
+            number,
+            offset,
+            bus,
+            ("Warng", "Warng", "Warn|WARNG|Warnng|warng|Warnga"),
+            (
+                "FFFFFFFF",
+                "FFFFFFFF|ffffffff|FfFfFfFf",
+                "FFFFFFF|FFFFFFFFF|FFFFFFFE|EFFFFFFF|1FFFFFFF|FFFF|07FF",
+            ),
+            four,
+            byte,
+            byte,
+            byte,
+            byte,
+        ],
+        &[
+            number,
+            offset,
+            bus,
+            ("Error", "Error", "error|Err|Errorr"),
+            (
+                "0001",
+                "0001|0002|0004|0008",
+                "0000|0003|0009|0010|000A|0080|07FF|1|00000001|FFFFFFFF",
+            ),
+            four,
+            ("00", "00|01", "02|10|0|1|001|FF|RTR"),
+            (
+                "02",
+                "02|0F|0f|11|12|13|17|18|19|1A|1b|1C",
+                "00|01|10|14|15|16|1D|1F|20|FF|2|002",
+            ),
+            byte,
+            byte,
+        ],
+    ];
+    for columns in columns {
+        let row: Vec<&str> = columns.iter().map(|column| column.0).collect();
+        assert_eq!(seventh(&row.join(" ")), ROW);
+        for (at, (_, good, bad)) in columns.iter().enumerate() {
+            let before = row[..at].join(" ");
+            assert_eq!(seventh(&before), early(at as u64), "{before}");
+            for field in good.split('|') {
+                let line = format!("{before} {field}");
+                let ended = matches!(seventh(&line), ROW | [0, 0, 2, _]);
+                assert!(ended, "{line}");
+            }
+            for field in bad.split('|') {
+                let i = at as u64 + 1;
+                let after = row[at + 1..].join(" ");
+                let line = format!("{before} {field}");
+                assert_eq!(seventh(&line), wrong(i), "{line}");
+                let line = format!("  {before}  {field}   {after} ");
+                assert_eq!(seventh(&line), wrong(i), "{line}");
+            }
+        }
+    }
+}
+
+#[test]
+fn as_many_bytes_as_the_length_says() {
+    for length in 0..=8 {
+        let row = format!("7) 0.000 1 Tx 1FFFFFFF {length}");
+        let remote = seventh(&format!("{row} RTR"));
+        assert_eq!(remote, ROW);
+        assert_eq!(seventh(&format!("{row} RTR RTR")), wrong(8));
+        assert_eq!(seventh(&format!("{row} RTR 00")), wrong(8));
+        for bytes in 0..12 {
+            let line = format!("{row}{}", " 5a".repeat(bytes));
+            let expected = match bytes {
+                _ if bytes < length => early(6 + bytes as u64),
+                _ if bytes == length => ROW,
+                _ => wrong(7 + length as u64),
+            };
+            assert_eq!(seventh(&line), expected, "{line}");
+            if bytes > 0 {
+                let line = format!("{line} RTR");
+                let expected = wrong(7 + bytes.min(length) as u64);
+                assert_eq!(seventh(&line), expected, "{line}");
+            }
+        }
+    }
+}
+
+#[test]
+fn words_of_warnings() {
+    let row = "7) 0.000 1 Warng FFFFFFFF 4 00 00 00 08";
+    for words in [
+        "",
+        " ",
+        " A",
+        "  AB   RTR ",
+        " A B C D E F G H",
+        " BUSLIGHT Z",
+    ] {
+        assert_eq!(seventh(&format!("{row}{words}")), ROW);
+    }
+    for (words, field) in [
+        (" Ab", 11),
+        (" aB", 11),
+        (" 00", 11),
+        (" A0", 11),
+        (" A A A z A", 14),
+        (" A  A\tA", 12),
+        (" A @", 12),
+        (" A [", 12),
+        (" A ;", 12),
+        (" \0", 11),
+        ("A", 10),
+    ] {
+        assert_eq!(seventh(&format!("{row}{words}")), wrong(field), "{words}");
+    }
+    // Error frames and data frames have none.
+    assert_eq!(seventh("7) 0.000 1 Error 0001 4 00 02 00 00 A"), wrong(11));
+    assert_eq!(seventh("7) 0.000 1 Rx 0001 4 00 02 00 00 A"), wrong(11));
+    for many in [1_usize, 63, 64, 65, 1000, 5000] {
+        let words = " A".repeat(many);
+        assert_eq!(seventh(&format!("{row}{words}")), ROW);
+        let (line, last) = (format!("{row}{words} b"), 11 + many as u64);
+        assert_eq!(seventh(&line), wrong(last));
+        let word = "Q".repeat(many);
+        assert_eq!(seventh(&format!("{row} {word} {word}")), ROW);
+        assert_eq!(seventh(&format!("{row} {word} {word}q A")), wrong(12));
+    }
+}
+
+#[test]
+fn columns_of_version_one_one() {
+    let first = |line: &str| explain(line.as_bytes(), 11, 999_999);
+    let row = "999999) 0.0 Rx 0123 1 0A";
+    for (fields, end) in [7, 11, 14, 19, 21].into_iter().enumerate() {
+        assert_eq!(first(&row[..end]), early(fields as u64 + 1));
+    }
+    assert_eq!(first(row), ROW);
+    assert_eq!(first(&format!("{row} 00")), wrong(7));
+    assert_eq!(first("999999) 0.000 1 Rx 0123 1 0A"), wrong(2));
+    assert_eq!(first("999999) 0.0 1 Rx 0123 1 0A"), wrong(3));
+    assert_eq!(explain(row.as_bytes(), 12, 999_999), wrong(2));
+    assert_eq!(
+        first("999999) 0.0 Warng FFFFFFFF 4 00 00 00 08 X y"),
+        wrong(11)
+    );
+    assert_eq!(first("999999) 0.0 Error 0008 4 01 10"), wrong(7));
+}
+
+#[test]
+fn refused_and_comments() {
+    let row = "7) 0.000 1 Rx 0123 0";
+    for version in [0, 1, 10, 13, 20, 256 + 12, u32::MAX] {
+        for (line, number) in [(row, 7), (row, 0), ("", 1), (";", u64::MAX), ("\r", 1)] {
+            assert_eq!(explain(line.as_bytes(), version, number), [21, 0, 0, 0]);
+        }
+    }
+    for number in [0, 1_000_000, 1 << 32 | 7, u64::MAX] {
+        for line in [row, "", "x", ";$", "0) 0.000 1 Rx 0123 0"] {
+            assert_eq!(explain(line.as_bytes(), 12, number), [30, 0, 0, 0]);
+        }
+    }
+    for number in [1, 6, 8, 70, 999_999] {
+        assert_eq!(explain(row.as_bytes(), 12, number), wrong(1));
+    }
+    for line in [";", ";;", ";  ", "; a$", ";\t$", "; ;$", ";7) 0.000", ";\0"] {
+        assert_eq!(seventh(line), [30, 0, 0, 0], "{line}");
+    }
+    for line in [";$", ";$X", ";  $X", " ;", " ; a", "x;", "$", "\t;", "\0"] {
+        assert_eq!(seventh(line), wrong(1), "{line}");
+    }
+    for line in [
+        "x\r",
+        "x\n",
+        "\r\n",
+        " \n ",
+        "7) 0.000\r",
+        "7)\n0.000",
+        "\ry",
+        ";$\r",
+    ] {
+        assert_eq!(seventh(line), [30, 0, 0, 0], "{line}");
+    }
+    for blanks in [0, 1, 2, 63, 64, 65, 250, 251, 5000] {
+        let blanks = " ".repeat(blanks);
+        assert_eq!(seventh(&blanks), early(0));
+        assert_eq!(seventh(&format!("{blanks}7){blanks}")), early(1));
+        assert_eq!(seventh(&format!("{blanks}{row}{blanks}")), ROW);
+        assert_eq!(
+            seventh(&format!("{blanks}{row}{blanks}x")),
+            match blanks.len() {
+                0 => wrong(6),
+                _ => wrong(7),
+            }
+        );
+    }
+    assert_eq!(seventh("7)\t0.000 1 Rx 0123 0"), wrong(1));
+    assert_eq!(seventh("7) 0.000 1 Rx 0123 0\t"), wrong(6));
 }

@@ -42,7 +42,7 @@ pub fn damage(random: &mut Random, text: &mut Vec<u8>) {
     text.append(&mut rows);
 }
 
-fn damage_byte(random: &mut Random, text: &mut Vec<u8>) {
+pub fn damage_byte(random: &mut Random, text: &mut Vec<u8>) {
     let at = random.below(text.len() + 1);
     if at == text.len() {
         return text.push(random.pick(ALPHABET));
@@ -138,7 +138,7 @@ fn is_gap(byte: u8) -> bool {
 }
 
 /// The word with its last digit one higher, so that many a number is just past its limit.
-fn next_number(word: &[u8]) -> Vec<u8> {
+pub fn next_number(word: &[u8]) -> Vec<u8> {
     let mut word = word.to_vec();
     if let Some(digit) = word.iter_mut().rev().find(|b| b.is_ascii_hexdigit()) {
         *digit += 1;

@@ -1,6 +1,7 @@
-//! Inputs at random: records, texts that spell them, and damage to both.
+//! Inputs at random: records, texts that spell them, lines like rows, and damage to all of them.
 
 pub mod damage;
+pub mod lines;
 pub mod noise;
 pub mod random;
 pub mod realistic;

@@ -89,7 +89,7 @@ impl Style {
     }
 
     /// The fields of a row, and any warning words.
-    fn words(
+    pub fn words(
         &self,
         random: &mut Random,
         version: u64,

@@ -1,0 +1,114 @@
+//! Lines to be explained: a row at random, and all that comes of it.
+
+use super::runs::Runs;
+use super::Checked;
+use crate::inputs::lines::{noise, RowFields, LAST_NUMBER};
+
+/// The answer for a row, and for all else that is not explained.
+const UNEXPLAINED: [u64; 4] = [30, 0, 0, 0];
+const NO_VERSION: [u64; 4] = [21, 0, 0, 0];
+const VERSIONS: [u32; 11] = [
+    0,
+    1,
+    2,
+    10,
+    13,
+    20,
+    21,
+    110,
+    256 + 11,
+    1 << 31 | 12,
+    u32::MAX,
+];
+
+pub fn one_row(runs: &mut Runs) -> Checked {
+    let row = RowFields::new(&mut runs.random);
+    let (version, number) = (row.version, row.number);
+    for line in row.good(&mut runs.random) {
+        runs.explain("explain: row", &line, version, number, Some(UNEXPLAINED))?;
+    }
+    elsewhere(runs, &row)?;
+    let random = &mut runs.random;
+    let noise = (0..20).map(|_| noise(random)).collect();
+    for (kind, lines) in [
+        ("explain: field damaged", row.damaged(random)),
+        ("explain: fields rearranged", row.rearranged(random)),
+        ("explain: row cut off", row.cut(random)),
+        ("explain: odd byte in a row", row.with_odd_bytes(random)),
+        ("explain: noise", noise),
+    ] {
+        for line in lines {
+            let ended = line.iter().any(|byte| b"\r\n".contains(byte));
+            let known = ended.then_some(UNEXPLAINED);
+            runs.explain(kind, &line, version, number, known)?;
+            if runs.random.once_in(8) {
+                anywhere(runs, &line)?;
+            }
+        }
+    }
+    for line in row.commented(&mut runs.random) {
+        let known = Some(UNEXPLAINED);
+        runs.explain("explain: comment", &line, version, number, known)?;
+    }
+    for line in row.nearly_commented(&mut runs.random) {
+        let known = Some([0, 0, 1, 1]);
+        runs.explain("explain: no comment", &line, version, number, known)?;
+    }
+    Ok(())
+}
+
+/// A good row, with other numbers and versions.
+fn elsewhere(runs: &mut Runs, row: &RowFields) -> Checked {
+    let line = row.fields.join(&b' ');
+    let right = row.number;
+    let far = [
+        0,
+        1,
+        LAST_NUMBER,
+        LAST_NUMBER + 1,
+        1 << 32,
+        1 << 63,
+        u64::MAX,
+    ];
+    let near = [
+        right - 1,
+        right + 1,
+        right * 10,
+        right / 10,
+        1 << 32 | right,
+    ];
+    for number in far.into_iter().chain(near) {
+        let known = match number {
+            1..=LAST_NUMBER if number != right => [0, 0, 1, 1],
+            _ => UNEXPLAINED,
+        };
+        let kind = "explain: row of another number";
+        runs.explain(kind, &line, row.version, number, Some(known))?;
+        let version = runs.random.pick(&VERSIONS);
+        let kind = "explain: no version";
+        runs.explain(kind, &line, version, number, Some(NO_VERSION))?;
+    }
+    // The digits behind the point are not as many.
+    let (kind, known) = ("explain: row of another version", [0, 0, 1, 2]);
+    runs.explain(kind, &line, 23 - row.version, right, Some(known))?;
+    Ok(())
+}
+
+/// Any line, with any number and version.
+fn anywhere(runs: &mut Runs, line: &[u8]) -> Checked {
+    let any = runs.random.number();
+    let small = 1 + any % LAST_NUMBER;
+    let number = runs
+        .random
+        .pick(&[0, 1, 2, small, LAST_NUMBER, LAST_NUMBER + 1, any]);
+    let version = runs.random.pick(&VERSIONS);
+    let version = runs.random.pick(&[11, 11, 12, 12, version]);
+    runs.explain(
+        "explain: any number and version",
+        line,
+        version,
+        number,
+        None,
+    )?;
+    Ok(())
+}
