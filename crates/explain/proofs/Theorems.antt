@@ -1,6 +1,7 @@
 -- The promise leaves one answer only, and what it says of a line is the same whatever its fields are called.
 use Prim.Native.Nat.{ℕ, _+_, _-_, _≤_, _<_}
 use mathlib.Core.Path.{_≡_, ap, sym, _∙_}
+use mathlib.Core.Logic.{_⊎_, inl, inr}
 use mathlib.Core.List.{List, [], _++_, append-assoc, append-nil}
 use native.Mathlib.Omega.{arith}
 use native.Mathlib.Decide.{decLt}
@@ -12,6 +13,7 @@ use Rattle.fields.specs.Runs.{All}
 use Rattle.fields.proofs.Parts.{parted-one}
 use Rattle.lines.specs.Lines.{Inside, Comment}
 use Rattle.row.specs.Row.{RowFields, Row}
+use Rattle.row.specs.Versions.{Version}
 use Rattle.explain.specs.declared.Explained.{Explained}
 use Rattle.explain.specs.declared.Explained.the-variants as explained
 use Rattle.explain.specs.Explain.{BeginsRow, WrongField, EndedEarly, Unexplained, no-number, no-line, row, comment}
@@ -66,6 +68,14 @@ to-explain l h i c n (no-number f) = f l h
 to-explain l h i c n (no-line f) = f i
 to-explain l h i c n (row w) = n _ w
 to-explain l h i c n (comment x) = c x
+
+-- One of the two reasons applies, and is given, where nothing is refused.
+pub one-applies : {line a : List ℕ} {v k : ℕ} → Version v → (Unexplained v k line → ⊥) → ExplainPromise line v k a
+    → ((i : ℕ) × WrongField v k line i × (a ≡ explainNumbers (explained.Wrong i))) ⊎ ((i : ℕ) × EndedEarly v k line i × (a ≡ explainNumbers (explained.Early i)))
+one-applies is n (no-version u e) = absurd (u is)
+one-applies is n (unexplained u x e) = absurd (n x)
+one-applies is n (wrong {i = i} u x w e) = inl (i, w, e)
+one-applies is n (early {i = i} u x w e) = inr (i, w, e)
 
 -- One answer.
 pub one-explain : {line : List ℕ} {v k : ℕ} {a b : List ℕ} → ExplainPromise line v k a → ExplainPromise line v k b → a ≡ b
