@@ -20,23 +20,23 @@ use Rattle.row.specs.declared.Part.{Part}
 use Rattle.row.specs.declared.Step.{Step}
 use Rattle.row.specs.inner.Stages.{Continues, Good, EndsRow, whole, early}
 use Rattle.row.proofs.Long.{number-short}
-use Rattle.row.proofs.Open.{opens}
+use Rattle.row.proofs.CanEnd.{can-end}
 use Rattle.fields.specs.Columns.{lastNumber}
 use Rattle.explain.specs.declared.Explained.{Explained}
 use Rattle.explain.specs.declared.Explained.the-variants as explained
 use Rattle.explain.specs.Explain.{row}
 use Rattle.explain.specs.Promise.{ExplainPromise, explainNumbers, unexplained}
 use Rattle.explain.specs.Promise.{wrong as promise-wrong, early as promise-early}
-use Rattle.explain.specs.inner.Steps.{Moves, moved, stuck, Reached, FoundIn}
-use Rattle.explain.proofs.Fields.{reached-next, found-wrong, found-early, found-row}
+use Rattle.explain.specs.inner.Steps.{Moves, moved, stuck, FieldsBefore, FoundIn}
+use Rattle.explain.proofs.Fields.{fields-next, found-wrong, found-early, found-row}
 use Rattle.explain.proofs.Theorems.{wrong-no-row, early-no-row, to-explain}
 
--- i fields stand before the place `at`, and whatever row is reached with the first, is reached with them.
+-- i fields stand before the place `at`: those of every row that begins with the first field go on from the state p.
 pub record Going (line : List ℕ) (from : ℕ) (first p : Part) (at i : ℕ) : Type 0 where
   pub within : at ≤ length line
   pub few : i ≤ at
   pub good : Good p
-  pub reached : (v k : ℕ) → Reached v k line (Continues first) from 1 → Reached v k line (Continues p) at i
+  pub fields : (v k : ℕ) → FieldsBefore v k line (Continues first) from 1 → FieldsBefore v k line (Continues p) at i
 
 pub moved-good : {C : List (List ℕ) → Record → Type 0} {f : List ℕ} {t : Step} → Moves C f t → t .at ≢ 0 → Good (t .part)
 moved-good (moved z g u v) n = g
@@ -50,33 +50,33 @@ none-goes-on (stuck z u) _ = u
 -- The answers at the line's end and at a field.
 module _ {line : List ℕ} {from at a i : ℕ} {first p : Part} (x : Going line from first p at i) (g : Ran (Between 32 32) line at a) where
   pub end-row : (b : Bool) → b ≡ true → EndsRow (p .stage) p b → a ≡ length line
-      → (v k : ℕ) → Reached v k line (Continues first) from 1 → FoundIn v k line (explained.Refused 30)
-  end-row true e (whole c u) n v k y = (refl, (p .r, found-row (x .reached v k y) (blanks-ran g) n c))
+      → (v k : ℕ) → FieldsBefore v k line (Continues first) from 1 → FoundIn v k line (explained.Refused 30)
+  end-row true e (whole c u) n v k y = (refl, (p .r, found-row (x .fields v k y) (blanks-ran g) n c))
   end-row false e d n v k y = absurd (true≢false (sym e))
 
   pub end-early : (b : Bool) → b ≡ false → EndsRow (p .stage) p b → a ≡ length line
-      → (v k : ℕ) → Reached v k line (Continues first) from 1 → FoundIn v k line (explained.Early i)
+      → (v k : ℕ) → FieldsBefore v k line (Continues first) from 1 → FoundIn v k line (explained.Early i)
   end-early true e d n v k y = absurd (true≢false e)
-  end-early false e (early u) n v k y = found-early (x .reached v k y) (blanks-ran g) n (opens p (x .good)) u
+  end-early false e (early u) n v k y = found-early (x .fields v k y) (blanks-ran g) n (can-end p (x .good)) u
 
   module _ {e : ℕ} (n : a ≢ length line) (h : Ran NoBlank line a e) {t : Step} (m : Moves (Continues p) (slice a e line) t) where
-    pub at-wrong : t .at ≡ 0 → (v k : ℕ) → Reached v k line (Continues first) from 1 → FoundIn v k line (explained.Wrong (i + 1))
-    at-wrong z v k y = found-wrong (blanks-ran g) n h (x .reached v k y) (opens p (x .good)) (none-goes-on m z)
+    pub at-wrong : t .at ≡ 0 → (v k : ℕ) → FieldsBefore v k line (Continues first) from 1 → FoundIn v k line (explained.Wrong (i + 1))
+    at-wrong z v k y = found-wrong (blanks-ran g) n h (x .fields v k y) (can-end p (x .good)) (none-goes-on m z)
 
-    pub goes-on : t .at ≢ 0 → i + 1 ≤ e → Going line from first (t .part) e (i + 1)
-    goes-on z l = record {
+    pub one-more-field : t .at ≢ 0 → i + 1 ≤ e → Going line from first (t .part) e (i + 1)
+    one-more-field z l = record {
       within = h .within;
       few = l;
       good = moved-good m z;
-      reached = λ v k y. reached-next (blanks-ran g) n h (x .reached v k y) m z;
+      fields = λ v k y. fields-next (blanks-ran g) n h (x .fields v k y) m z;
     }
 
 -- The whole answer.
 module _ {line : List ℕ} {v k : ℕ} (is : Version v) (i : All Inside line) (n : Comment line → ⊥) (l : 1 ≤ k) (h : k ≤ lastNumber) where
-  pub answered : (x : Explained) → FoundIn v k line x → ExplainPromise line v k (explainNumbers x)
-  answered (explained.Wrong j) w = promise-wrong is (to-explain l h i n (λ r. wrong-no-row w)) w refl
-  answered (explained.Early j) w = promise-early is (to-explain l h i n (λ r. early-no-row w)) w refl
-  answered (explained.Refused m) (e, (r, q)) = unexplained is (row q) (rw e refl)
+  pub promised : (x : Explained) → FoundIn v k line x → ExplainPromise line v k (explainNumbers x)
+  promised (explained.Wrong j) w = promise-wrong is (to-explain l h i n (λ r. wrong-no-row w)) w refl
+  promised (explained.Early j) w = promise-early is (to-explain l h i n (λ r. early-no-row w)) w refl
+  promised (explained.Refused m) (e, (r, q)) = unexplained is (row q) (rw e refl)
 
 -- No row is without a field, and no row number is long.
 pub no-row-empty : {v k : ℕ} (r : Record) → RowFields v k r [] → ⊥

@@ -20,8 +20,8 @@ use Rattle.row.proofs.Texts.{Sized, nil, one, parted-joined}
 use Rattle.explain.specs.Explain.{BeginsRow, WrongField, EndedEarly}
 
 -- A field of one byte or more.
-abbrev pub Some : List ℕ → Type 0
-Some f = 0 < length f
+abbrev pub NotEmpty : List ℕ → Type 0
+NotEmpty f = 0 < length f
 
 -- The fields that are not empty.
 abbrev kept : List (List ℕ) → List (List ℕ)
@@ -29,19 +29,19 @@ kept [] = []
 kept ([] ∷ fs) = kept fs
 kept ((b ∷ f) ∷ fs) = (b ∷ f) ∷ kept fs
 
-kept-some : {f : List ℕ} (fs : List (List ℕ)) → Some f → kept (f ∷ fs) ≡ f ∷ kept fs
+kept-some : {f : List ℕ} (fs : List (List ℕ)) → NotEmpty f → kept (f ∷ fs) ≡ f ∷ kept fs
 kept-some {f} fs h = go f h
   where
-    go : (f : List ℕ) → Some f → kept (f ∷ fs) ≡ f ∷ kept fs
+    go : (f : List ℕ) → NotEmpty f → kept (f ∷ fs) ≡ f ∷ kept fs
     go [] h = absurd (omega arith)
     go (b ∷ f) h = refl
 
-kept-each : (fs : List (List ℕ)) → Each Some (kept fs)
+kept-each : (fs : List (List ℕ)) → Each NotEmpty (kept fs)
 kept-each [] = no-more
 kept-each ([] ∷ fs) = kept-each fs
 kept-each ((b ∷ f) ∷ fs) = then {f = b ∷ f} (omega arith) (kept-each fs)
 
-kept-front : {fs : List (List ℕ)} (gs : List (List ℕ)) → Each Some fs → kept (fs ++ gs) ≡ fs ++ kept gs
+kept-front : {fs : List (List ℕ)} (gs : List (List ℕ)) → Each NotEmpty fs → kept (fs ++ gs) ≡ fs ++ kept gs
 kept-front gs no-more = refl
 kept-front gs (then {fs = fs} h e) = rw (kept-some (fs ++ gs) h, kept-front gs e)
 
@@ -60,7 +60,7 @@ bytes : {Then : List (List ℕ) → Type 0} {place n sum : ℕ} {fs : List (List
 bytes g (Row.done h) = Row.done (g _ h)
 bytes g (Row.byte {fs = fs} h r e) = rw (kept-some fs (byte-some h)) (Row.byte h (bytes g r) e)
 
-hex-some : {w n : ℕ} {f : List ℕ} → 0 < w → Hex w n f → Some f
+hex-some : {w n : ℕ} {f : List ℕ} → 0 < w → Hex w n f → NotEmpty f
 hex-some l h = omega (arith, h .width)
 
 module _ {r : Record} where
@@ -97,11 +97,11 @@ kept-row (Row.number {fs = fs} n (Row.offset {fs = gs} v o b)) =
 
 -- Fields that are not empty are those of a line.
 
-sized : {fs : List (List ℕ)} → Each Some fs → (n : ℕ) × Sized n fs
+sized : {fs : List (List ℕ)} → Each NotEmpty fs → (n : ℕ) × Sized n fs
 sized no-more = (0, nil)
 sized (then {f = f} h e) = let x = sized e in (length f + suc (x .0), one {n = length f + suc (x .0)} {m = x .0} {f = f} h (omega arith) (x .1))
 
-pub parted-each : {fs : List (List ℕ)} {line : List ℕ} → Parted fs line → Each Some fs
+pub parted-each : {fs : List (List ℕ)} {line : List ℕ} → Parted fs line → Each NotEmpty fs
 parted-each none = no-more
 parted-each (blank-first p) = parted-each p
 parted-each (field {b = b} {f = f} a h e p) = then {f = b ∷ f} (omega arith) (parted-each p)
@@ -120,10 +120,10 @@ pub record SomeRow (v k : ℕ) (fs : List (List ℕ)) : Type 0 where
   pub further : List (List ℕ)
   pub begins : row .fields ≡ fs ++ further
 
-pub begins-row : {v k : ℕ} {fs : List (List ℕ)} → Each Some fs → BeginsRow v k fs → SomeRow v k fs
+pub begins-row : {v k : ℕ} {fs : List (List ℕ)} → Each NotEmpty fs → BeginsRow v k fs → SomeRow v k fs
 begins-row {v} {k} {fs} e b =
     let w : Row.RowFields v k (b .r) (fs ++ kept (b .further)) = rw (kept-front (b .further) e) at (kept-row (b .row)) in
-    let s : Each Some (fs ++ kept (b .further)) = rw (kept-front (b .further) e) at (kept-each (fs ++ b .further)) in
+    let s : Each NotEmpty (fs ++ kept (b .further)) = rw (kept-front (b .further) e) at (kept-each (fs ++ b .further)) in
     let p = each-map (λ g a. all-map (λ c q. q .blank) a) (fields-plain w) in
     record {
       line = joined (fs ++ kept (b .further));

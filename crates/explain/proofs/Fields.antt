@@ -1,4 +1,4 @@
--- From field to field: what a gap and a field make of what was reached, and the answers at a field that no row goes on with and at the line's end.
+-- From field to field: what a gap and a field add to the fields before them, and the answers at a field that no row goes on with and at the line's end.
 use Prim.Native.Nat.{ℕ, _+_, _-_, _≤_, _<_}
 use mathlib.Core.Path.{_≡_, refl, ap, sym, _∙_}
 use mathlib.Core.Logic.{_≢_}
@@ -19,9 +19,9 @@ use Rattle.lines.proofs.Scans.{split, part}
 use Rattle.row.specs.declared.Step.{Step}
 use Rattle.row.specs.Row.{RowFields, Row}
 use Rattle.row.specs.inner.Stages.{Continues}
-use Rattle.row.proofs.Open.{Opens}
+use Rattle.row.proofs.CanEnd.{CanEnd}
 use Rattle.explain.specs.Explain.{BeginsRow, WrongField, EndedEarly}
-use Rattle.explain.specs.inner.Steps.{Field, Moves, moved, stuck, Reached}
+use Rattle.explain.specs.inner.Steps.{Field, Moves, moved, stuck, FieldsBefore}
 
 -- Every line has fields.
 
@@ -31,9 +31,9 @@ one-more {b} (no n) none = ((b ∷ []) ∷ [], field (more n empty) over refl no
 one-more {b} {fs = fs} (no n) (blank-first p) = ((b ∷ []) ∷ fs, field (more n empty) (halt (λ m. m refl)) refl (blank-first p))
 one-more {b} (no n) (field {b = c} {f = f} {fs = gs} a h e p) = ((b ∷ c ∷ f) ∷ gs, field (more n a) h (ap (λ (l : List ℕ). b ∷ l) e) p)
 
-pub parted-some : (s : List ℕ) → (fs : List (List ℕ)) × Parted fs s
-parted-some [] = ([], none)
-parted-some (b ∷ s) = one-more (ℕ-discrete b 32) (parted-some s .1)
+pub has-fields : (s : List ℕ) → (fs : List (List ℕ)) × Parted fs s
+has-fields [] = ([], none)
+has-fields (b ∷ s) = one-more (ℕ-discrete b 32) (has-fields s .1)
 
 -- A gap, and the field behind it.
 module _ {line : List ℕ} {at a e : ℕ} (g : Ran IsBlank line at a) (n : a ≢ length line) (h : Ran NoBlank line a e) where
@@ -80,7 +80,7 @@ module _ {line : List ℕ} {at a e : ℕ} (g : Ran IsBlank line at a) (n : a ≢
   pub fields-here : {fs : List (List ℕ)} → Parted fs (drop e line) → Parted (slice a e line ∷ fs) (drop at line)
   fields-here p = rw (split g) (blanks (g .all) (first some (h .all) (h .stops) p (split h)))
 
-  module _ {v k i : ℕ} {C : List (List ℕ) → Record → Type 0} (x : Reached v k line C at i) where
+  module _ {v k i : ℕ} {C : List (List ℕ) → Record → Type 0} (x : FieldsBefore v k line C at i) where
     abbrev f : List ℕ
     f = slice a e line
 
@@ -91,9 +91,9 @@ module _ {line : List ℕ} {at a e : ℕ} (g : Ran IsBlank line at a) (n : a ≢
     counted : length (x .front ++ (f ∷ [])) ≡ i + 1
     counted = omega (arith, length-append (x .front) (f ∷ []), x .count)
 
-    pub reached-next : {t : Step} → Moves C f t → t .at ≢ 0 → Reached v k line (Continues (t .part)) e (i + 1)
-    reached-next (stuck z u) m = absurd (m z)
-    reached-next (moved z d onto back) m = record {
+    pub fields-next : {t : Step} → Moves C f t → t .at ≢ 0 → FieldsBefore v k line (Continues (t .part)) e (i + 1)
+    fields-next (stuck z u) m = absurd (m z)
+    fields-next (moved z d onto back) m = record {
       front = x .front ++ (f ∷ []);
       count = counted;
       parted = λ fs p. rw (longer fs) (x .parted (f ∷ fs) (fields-here p));
@@ -101,9 +101,9 @@ module _ {line : List ℕ} {at a e : ℕ} (g : Ran IsBlank line at a) (n : a ≢
       back = λ fs r c. rw (longer fs) (x .back (f ∷ fs) r (back fs r c));
     }
 
-    pub found-wrong : Opens C → ((fs : List (List ℕ)) (r : Record) → C (f ∷ fs) r → ⊥) → WrongField v k line (i + 1)
+    pub found-wrong : CanEnd C → ((fs : List (List ℕ)) (r : Record) → C (f ∷ fs) r → ⊥) → WrongField v k line (i + 1)
     found-wrong o u =
-        let y = parted-some (drop e line) in
+        let y = has-fields (drop e line) in
         let gs = y .0 in
         let z : i + 1 - 1 ≡ i = omega arith in
         record {
@@ -119,14 +119,14 @@ module _ {line : List ℕ} {at a e : ℕ} (g : Ran IsBlank line at a) (n : a ≢
         }
 
 -- The line's end.
-module _ {v k : ℕ} {line : List ℕ} {at a i : ℕ} {C : List (List ℕ) → Record → Type 0} (x : Reached v k line C at i) (g : Ran IsBlank line at a) (n : a ≡ length line) where
+module _ {v k : ℕ} {line : List ℕ} {at a i : ℕ} {C : List (List ℕ) → Record → Type 0} (x : FieldsBefore v k line C at i) (g : Ran IsBlank line at a) (n : a ≡ length line) where
   ended : Parted (x .front) line
   ended =
       let l : length line ≤ a = omega arith in
       let p : Parted [] (drop at line) = rw (split g, drop-of-length-le line l) (blanks (g .all) none) in
       rw append-nil at (x .parted [] p)
 
-  pub found-early : Opens C → ((r : Record) → C [] r → ⊥) → EndedEarly v k line i
+  pub found-early : CanEnd C → ((r : Record) → C [] r → ⊥) → EndedEarly v k line i
   found-early o u = record {
     fields = x .front;
     parted = ended;
@@ -139,5 +139,5 @@ module _ {v k : ℕ} {line : List ℕ} {at a i : ℕ} {C : List (List ℕ) → R
   found-row {r} c = record { fields = x .front; parted = ended; row = rw append-nil at (x .back [] r c) }
 
 -- Before the first field.
-pub reached-none : (v k : ℕ) (line : List ℕ) → Reached v k line (λ fs r. RowFields v k r fs) 0 0
-reached-none v k line = record { front = []; count = refl; parted = λ fs p. p; onto = λ fs r c. c; back = λ fs r c. c }
+pub fields-none : (v k : ℕ) (line : List ℕ) → FieldsBefore v k line (λ fs r. RowFields v k r fs) 0 0
+fields-none v k line = record { front = []; count = refl; parted = λ fs p. p; onto = λ fs r c. c; back = λ fs r c. c }

@@ -17,11 +17,11 @@ use Rattle.explain.specs.Promise.{ExplainPromise, no-version, unexplaine
 use Rattle.explain.proofs.Theorems.{to-explain}
 
 -- What is explained is no refusal, and what is not to be explained is one.
-pub not-refused : {line a : List ℕ} {v k : ℕ} → Version v → (Unexplained v k line → ⊥) → ExplainPromise line v k a → getD a 0 0 ≡ 0
-not-refused v n (no-version u e) = absurd (u v)
-not-refused v n (unexplained u x e) = absurd (n x)
-not-refused v n (wrong u x w e) = ap (λ (l : List ℕ). getD l 0 0) e
-not-refused v n (early u x w e) = ap (λ (l : List ℕ). getD l 0 0) e
+pub no-refusal : {line a : List ℕ} {v k : ℕ} → Version v → (Unexplained v k line → ⊥) → ExplainPromise line v k a → getD a 0 0 ≡ 0
+no-refusal v n (no-version u e) = absurd (u v)
+no-refusal v n (unexplained u x e) = absurd (n x)
+no-refusal v n (wrong u x w e) = ap (λ (l : List ℕ). getD l 0 0) e
+no-refusal v n (early u x w e) = ap (λ (l : List ℕ). getD l 0 0) e
 
 pub refused-30 : {line a : List ℕ} {v k : ℕ} → Version v → Unexplained v k line → ExplainPromise line v k a → getD a 0 0 ≡ 30
 refused-30 v x (no-version u e) = absurd (u v)
@@ -61,7 +61,7 @@ row-refused f = go (f .stands) (f .stopped) (f .whole) (f .at)
       before = ls;
       trace = t;
       spelled = a;
-      explains = λ x h q. not-refused (a .version .is) (to-explain (omega arith) (omega arith) (l .first .inside) c r) q;
+      explains = λ x h q. no-refusal (a .version .is) (to-explain (omega arith) (omega arith) (l .first .inside) c r) q;
       full = λ x h q. refused-30 (a .version .is) (no-number (λ u w. omega arith)) q;
     }
 

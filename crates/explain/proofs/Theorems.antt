@@ -1,4 +1,4 @@
--- The promise leaves one answer only, and what it says of a line is the same whatever its fields are called.
+-- The promise leaves one answer only, and one of the two reasons is given where nothing is refused.
 use Prim.Native.Nat.{ℕ, _+_, _-_, _≤_, _<_}
 use mathlib.Core.Path.{_≡_, ap, sym, _∙_}
 use mathlib.Core.Logic.{_⊎_, inl, inr}
@@ -21,8 +21,8 @@ use Rattle.explain.specs.Promise.{ExplainPromise, explainNumbers, no-ver
 
 module _ {v k : ℕ} where
   -- What begins a row begins it with fewer fields, too.
-  pub begins-fewer : (n : ℕ) {fs : List (List ℕ)} → BeginsRow v k fs → BeginsRow v k (take n fs)
-  begins-fewer n {fs} b = record {
+  pub begins-with-fewer : (n : ℕ) {fs : List (List ℕ)} → BeginsRow v k fs → BeginsRow v k (take n fs)
+  begins-with-fewer n {fs} b = record {
     further = drop n fs ++ b .further;
     r = b .r;
     row = let e : take n fs ++ (drop n fs ++ b .further) ≡ fs ++ b .further = sym (append-assoc (take n fs) (drop n fs) (b .further)) ∙ ap (λ (l : List (List ℕ)). l ++ b .further) (take-append-drop n fs) in
@@ -34,7 +34,7 @@ module _ {v k : ℕ} where
   wrong-no-row {i = i} {r = r} w q =
       let e = parted-one (q .parted) (w .parted) in
       let f : RowFields v k r (w .fields) = rw e at (q .row) in
-      w .none (begins-fewer i (record { further = []; r = r; row = rw append-nil f }))
+      w .none (begins-with-fewer i (record { further = []; r = r; row = rw append-nil f }))
 
   pub early-no-row : {line : List ℕ} {i : ℕ} {r : Record} → EndedEarly v k line i → Row v k r line → ⊥
   early-no-row {r = r} w q = w .none r (rw (parted-one (q .parted) (w .parted)) at (q .row))
@@ -44,7 +44,7 @@ module _ {v k : ℕ} where
   not-earlier {i = i} {j = j} p q l =
       let e = parted-one (p .parted) (q .parted) in
       let m : i ≤ j - 1 = omega arith in
-      p .none (rw (e, ← take-take i (j - 1) (q .fields) m) (begins-fewer i (q .before)))
+      p .none (rw (e, ← take-take i (j - 1) (q .fields) m) (begins-with-fewer i (q .before)))
 
   pub one-wrong : {line : List ℕ} {i j : ℕ} → WrongField v k line i → WrongField v k line j → i ≡ j
   one-wrong {i = i} {j = j} p q = go (decLt i j) (decLt j i)
@@ -56,7 +56,7 @@ module _ {v k : ℕ} where
 
   -- A line that ended early has no wrong field.
   pub not-wrong-early : {line : List ℕ} {i j : ℕ} → WrongField v k line i → EndedEarly v k line j → ⊥
-  not-wrong-early {i = i} p q = p .none (rw (parted-one (p .parted) (q .parted)) (begins-fewer i (q .begins)))
+  not-wrong-early {i = i} p q = p .none (rw (parted-one (p .parted) (q .parted)) (begins-with-fewer i (q .begins)))
 
   pub one-early : {line : List ℕ} {i j : ℕ} → EndedEarly v k line i → EndedEarly v k line j → i ≡ j
   one-early p q = sym (p .count) ∙ ap length (parted-one (p .parted) (q .parted)) ∙ q .count

@@ -41,11 +41,11 @@ module _ {f w : List ℕ} (rest : List ℕ) (h : Field f) (e : w ≡ f ++ (13 �
 
 -- A field that is too long for any other is a word.
 
-pub capitals : {f : List ℕ} {e : ℕ} → Ran (Between 65 90) f 0 e → e ≡ length f → All Capital f
-capitals r z = all-map (λ b q. record { low = q .low; high = q .high }) (to-end r z)
+pub word : {f : List ℕ} {e : ℕ} → Ran (Between 65 90) f 0 e → e ≡ length f → All Capital f
+word r z = all-map (λ b q. record { low = q .low; high = q .high }) (to-end r z)
 
-pub no-capitals : {f : List ℕ} {e : ℕ} → Ran (Between 65 90) f 0 e → e ≢ length f → All Capital f → ⊥
-no-capitals r n a = not-end r n (all-map (λ b q. record { low = q .low; high = q .high }) a)
+pub no-word : {f : List ℕ} {e : ℕ} → Ran (Between 65 90) f 0 e → e ≢ length f → All Capital f → ⊥
+no-word r n a = not-end r n (all-map (λ b q. record { low = q .low; high = q .high }) a)
 
 pub long-stuck : {f : List ℕ} (p : Part) (t : Step) → 16 ≤ length f → (All Capital f → ⊥) → t .at ≡ 0 → Moves (Continues p) f t
 long-stuck p t l n z = stuck z (λ fs r c. n (long-field p fs r l c .0))

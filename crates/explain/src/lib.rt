@@ -27,7 +27,7 @@ ghost use Rattle.row.specs.Row.{RowFields};
 ghost use Rattle.row.specs.Versions.{Version};
 ghost use Rattle.row.specs.inner.Stages.{Continues, Good};
 ghost use Rattle.explain.specs.Promise.{ExplainPromise, explainNumbers};
-ghost use Rattle.explain.specs.inner.Steps.{Field, Moves, Reached, FoundIn};
+ghost use Rattle.explain.specs.inner.Steps.{Field, Moves, FieldsBefore, FoundIn};
 
 // The most bytes of a field that is no word.
 const LONGEST: usize = 15;
@@ -100,7 +100,7 @@ fn step(f: &[u8], p: Part, w: &mut [u8; WINDOW]) -> Step
 // Takes the fields from a place on, behind the first.
 fn explain_fields(line: &[u8], from: usize, start: Part, w: &mut [u8; WINDOW]) -> Explained
     requires { ⌜ All Inside (now line) × (1 ≤ from) × (from ≤ length (now line)) × Good start ⌝ }
-    ensures { λ x. ⌜ ((v k : ℕ) → Reached v k (now (line .entry)) (Continues start) from 1 → FoundIn v k (now (line .entry)) x) ⌝ }
+    ensures { λ x. ⌜ ((v k : ℕ) → FieldsBefore v k (now (line .entry)) (Continues start) from 1 → FoundIn v k (now (line .entry)) x) ⌝ }
 {
     let mut p = start;
     let mut at = from;

@@ -1,3 +1,4 @@
+pub mod CanEnd
 pub mod Columns
 pub mod Data
 pub mod EachVersion
@@ -8,7 +9,6 @@ pub mod Least
 pub mod Long
 pub mod Moves
 pub mod One
-pub mod Open
 pub mod Plain
 pub mod Spelled
 pub mod Texts

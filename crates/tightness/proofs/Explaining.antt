@@ -18,7 +18,7 @@ use Rattle.lines.specs.Lines.{Comment}
 use Rattle.explain.specs.Explain.{BeginsRow, WrongField, EndedEarly, Unexplained, row, comment}
 use Rattle.explain.specs.Promise.{ExplainPromise, no-version, unexplained, wrong, early}
 use Rattle.explain.proofs.Theorems.{one-wrong, not-wrong-early}
-use Rattle.explain.proofs.Refused.{not-refused, refused-30}
+use Rattle.explain.proofs.Refused.{no-refusal, refused-30}
 
 module _ {line : List ℕ} {v k : ℕ} where
   -- another field than the wrong one, as one too late or too early, or another reason
@@ -51,7 +51,7 @@ module _ {line : List ℕ} {v k : ℕ} where
 
     -- a line refused for anything else, such as its length
     pub refused-for-its-length : {n : ℕ} {s : List ℕ} → (Unexplained v k line → ⊥) → n ≢ 0 → ExplainPromise line v k (n ∷ s) → ⊥
-    refused-for-its-length u d p = d (not-refused is u p)
+    refused-for-its-length u d p = d (no-refusal is u p)
 
 -- Behind some fields of a line stands one with which no row goes on: that is the wrong one.
 behind : {line : List ℕ} {v k : ℕ} (fs : List (List ℕ)) (f : List ℕ) (gs : List (List ℕ)) → Parted (fs ++ (f ∷ gs)) line → BeginsRow v k fs

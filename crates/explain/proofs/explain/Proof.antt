@@ -6,7 +6,7 @@ use Rattle.base.proofs.Tests.{shown, refuted, shown-not, refuted-not}
 use Rattle.lines.proofs.Scans.{to-end, not-end}
 use Rattle.explain.specs.Explain.{no-number, no-line, comment}
 use Rattle.explain.specs.Promise.{no-version, unexplained}
-use Rattle.explain.proofs.Answers.{answered}
+use Rattle.explain.proofs.Answers.{promised}
 use Rattle.explain.proofs.explain.Statement.{statement}
 use Rattle.explain.proofs.explain.Tie as tie
 
@@ -23,4 +23,4 @@ explain-spec =
     (λ c κs. search needs)
     (λ c. unexplained (shown-not (c .before .before .before .before .before .before .before .is-version .result) (c .before .before .before .before .before .before .before .is-version .ensures) (c .before .before .before .before .before .before .if1 .left)) (comment (shown (c .before .is-comment .result) (c .if5 .taken) (c .before .is-comment .ensures))) refl)
     (λ c κs. (to-end (c .before .before .before .inside-end .ensures) (c .before .before .if4 .left), shown-not (c .before .before .before .before .before .before .before .is-version .result) (c .before .before .before .before .before .before .before .is-version .ensures) (c .before .before .before .before .before .before .if1 .left), omega arith, omega arith))
-    (λ c. answered (shown-not (c .before .before .before .before .before .before .before .before .is-version .result) (c .before .before .before .before .before .before .before .before .is-version .ensures) (c .before .before .before .before .before .before .before .if1 .left)) (to-end (c .before .before .before .before .inside-end .ensures) (c .before .before .before .if4 .left)) (refuted (c .before .before .is-comment .result) (c .before .if5 .left) (c .before .before .is-comment .ensures)) (omega arith) (omega arith) (c .explain-row .result) (c .explain-row .ensures)))
+    (λ c. promised (shown-not (c .before .before .before .before .before .before .before .before .is-version .result) (c .before .before .before .before .before .before .before .before .is-version .ensures) (c .before .before .before .before .before .before .before .if1 .left)) (to-end (c .before .before .before .before .inside-end .ensures) (c .before .before .before .if4 .left)) (refuted (c .before .before .is-comment .result) (c .before .if5 .left) (c .before .before .is-comment .ensures)) (omega arith) (omega arith) (c .explain-row .result) (c .explain-row .ensures)))

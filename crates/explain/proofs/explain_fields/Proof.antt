@@ -4,7 +4,7 @@ use native.Mathlib.Omega.{arith}
 use lib.ListN.{length}
 use Rattle.lines.proofs.Scans.{blanks-ran, part}
 use Rattle.explain.proofs.Fields.{later, lent}
-use Rattle.explain.proofs.Answers.{Going, end-row, end-early, at-wrong, goes-on}
+use Rattle.explain.proofs.Answers.{Going, end-row, end-early, at-wrong, one-more-field}
 use Rattle.explain.proofs.explain_fields.Statement.{statement}
 use Rattle.explain.proofs.explain_fields.Tie as tie
 
@@ -18,7 +18,7 @@ pub explain-fields-spec : {M : Type 1} → statement M
 explain-fields-spec =
     tie.close
     (tie.spec Inv-loop μ-loop
-    (λ c. let s = c .before in record { within = s .pre .2; few = s .pre .1; good = s .pre .3; reached = λ v k y. y })
+    (λ c. let s = c .before in record { within = s .pre .2; few = s .pre .1; good = s .pre .3; fields = λ v k y. y })
     (λ c κs. c .loop .inv .within)
     (λ c κs. c .before .before .loop .inv .good)
     (λ c. end-row (c .before .before .before .before .loop .inv) (c .before .before .before .run-end .ensures) (c .before .complete .result) (c .if2 .taken) (c .before .complete .ensures) (c .before .before .if1 .taken))
@@ -35,4 +35,4 @@ explain-fields-spec =
     (λ c. let l = later (blanks-ran (c .before .before .before .before .before .before .before .before .run-end .ensures)) (c .before .before .before .before .before .before .before .if1 .left) (c .before .before .before .before .before .before .field-end .ensures) in omega (arith, c .before .before .before .before .before .before .before .before .before .loop .inv .few, c .before .before .before .before .before .before .before .before .run-end .ensures .from, c .before .before .before .before .before .before .field-end .ensures .within))
     (λ c. let l = later (blanks-ran (c .before .before .before .before .before .before .before .before .run-end .ensures)) (c .before .before .before .before .before .before .before .if1 .left) (c .before .before .before .before .before .before .field-end .ensures) in omega (arith, c .before .before .before .before .before .before .before .before .run-end .ensures, c .before .before .before .before .before .before .field-end .ensures .within))
     (λ c. let l = later (blanks-ran (c .before .before .before .before .before .before .before .before .run-end .ensures)) (c .before .before .before .before .before .before .before .if1 .left) (c .before .before .before .before .before .before .field-end .ensures) in
-    goes-on (c .before .before .before .before .before .before .before .before .before .loop .inv) (c .before .before .before .before .before .before .before .before .run-end .ensures) (c .before .before .before .before .before .before .before .if1 .left) (c .before .before .before .before .before .before .field-end .ensures) (rw (part (c .before .before .before .before .before .before .field-end .ensures)) at (c .before .before .before .step .ensures)) (c .before .if3 .left) (omega (arith, c .before .before .before .before .before .before .before .before .run-end .ensures .from, c .before .before .before .before .before .before .before .before .before .loop .inv .few))))
+    one-more-field (c .before .before .before .before .before .before .before .before .before .loop .inv) (c .before .before .before .before .before .before .before .before .run-end .ensures) (c .before .before .before .before .before .before .before .if1 .left) (c .before .before .before .before .before .before .field-end .ensures) (rw (part (c .before .before .before .before .before .before .field-end .ensures)) at (c .before .before .before .step .ensures)) (c .before .if3 .left) (omega (arith, c .before .before .before .before .before .before .before .before .run-end .ensures .from, c .before .before .before .before .before .before .before .before .before .loop .inv .few))))

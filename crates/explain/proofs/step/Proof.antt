@@ -5,7 +5,7 @@ use native.Mathlib.Omega.{arith}
 use borrow.Author.Needs.{needs}
 use lib.ListN.{length}
 use lib.Seq.{length-take-le}
-use Rattle.explain.proofs.Windows.{starts, moves, capitals, no-capitals, long-stuck, long-moves, front-field}
+use Rattle.explain.proofs.Windows.{starts, moves, word, no-word, long-stuck, long-moves, front-field}
 use Rattle.explain.proofs.step.Statement.{statement}
 use Rattle.explain.proofs.step.Tie as tie
 
@@ -17,7 +17,7 @@ step-spec =
     (λ c κs. let s = c .before .before .before .before .before in (starts _ (s .pre .0) (c .before .window .ensures), s .pre .1))
     (λ c. let s = c .before .before .before .before .before .before in moves _ (s .pre .0) (c .before .before .window .ensures) (c .take-field .ensures))
     (λ c κs. search needs)
-    (λ c. let s = c .before .before .before .before in long-stuck (s .args .p) _ (omega arith) (no-capitals (c .before .run-end .ensures) (c .if2 .taken)) refl)
+    (λ c. let s = c .before .before .before .before in long-stuck (s .args .p) _ (omega arith) (no-word (c .before .run-end .ensures) (c .if2 .taken)) refl)
     (λ c. let f = c .before .before .before .before .before .args .f .now in let l : 16 ≤ length f = omega arith in sym (length-take-le 16 f l))
     (λ c κs. let f = c .before .before .before .before .before .before .args .f .now in let l : 16 ≤ length f = omega arith in rw (length-take-le 16 f l) (omega arith))
     (λ c κs. let s = c .before .before .before .before .before .before .before .before in
@@ -25,5 +25,5 @@ step-spec =
     (starts _ (front-field l (s .pre .0)) (c .before .window2 .ensures), s .pre .1))
     (λ c. let s = c .before .before .before .before .before .before .before .before .before in
     let l : 16 ≤ length (s .args .f .now) = omega arith in
-    long-moves (s .args .p) _ l (capitals (c .before .before .before .before .before .before .run-end .ensures) (c .before .before .before .before .before .if2 .left))
+    long-moves (s .args .p) _ l (word (c .before .before .before .before .before .before .run-end .ensures) (c .before .before .before .before .before .if2 .left))
     (moves _ (front-field l (s .pre .0)) (c .before .before .window2 .ensures) (c .take-field2 .ensures))))

@@ -27,7 +27,7 @@ pub data Moves (C : List (List ℕ) → Record → Type 0) (f : List ℕ) (t : S
   stuck : t .at ≡ 0 → ((fs : List (List ℕ)) (r : Record) → C (f ∷ fs) r → ⊥) → Moves C f t
 
 -- The first i fields of the line stand before the place `at`, and C says which others make a row of them.
-pub record Reached (version number : ℕ) (line : List ℕ) (C : List (List ℕ) → Record → Type 0) (at i : ℕ) : Type 0 where
+pub record FieldsBefore (version number : ℕ) (line : List ℕ) (C : List (List ℕ) → Record → Type 0) (at i : ℕ) : Type 0 where
   pub front : List (List ℕ)
   pub count : length front ≡ i
   pub parted : (fs : List (List ℕ)) → Parted fs (drop at line) → Parted (front ++ fs) line

@@ -21,7 +21,7 @@ use Rattle.row.specs.inner.Stages.{continuesAt, goodAt, Continues, Good}
 use Rattle.row.proofs.Spelled.{number-spelled, offset-spelled, id-spelled, length-spelled}
 
 -- C says which fields end in which record: some do.
-pub record Opens (C : List (List ℕ) → Record → Type 0) : Type 0 where
+pub record CanEnd (C : List (List ℕ) → Record → Type 0) : Type 0 where
   pub fields : List (List ℕ)
   pub r : Record
   pub ends : C fields r
@@ -54,14 +54,14 @@ module _ (o b : ℕ) where
   from-type = Row.rx refl (from-id 0)
 
 -- with bus 1, at offset 0, and as row k
-from-bus : (o : ℕ) → Opens (λ fs r. (r .offset ≡ o) × Row.FromBus r true fs)
+from-bus : (o : ℕ) → CanEnd (λ fs r. (r .offset ≡ o) × Row.FromBus r true fs)
 from-bus o = record {
   fields = _;
   r = ended o 1 2 0 0 0 0;
   ends = (refl, Row.bus (record { spelled = decimal-spells 1; low = omega arith; high = omega arith }) (from-type o 1));
 }
 
-from-offset : {v : ℕ} → Version v → Opens (λ fs r. Row.FromOffset r v fs)
+from-offset : {v : ℕ} → Version v → CanEnd (λ fs r. Row.FromOffset r v fs)
 from-offset is11 = record {
   fields = _;
   r = ended 0 0 2 0 0 0 0;
@@ -72,12 +72,12 @@ from-offset is12 =
     let e : 0 ≡ b .r .offset = sym (b .ends .0) in
     record { fields = _; r = _; ends = Row.offset is12 (rw e at (offset-spelled 3 0 0 (omega arith) (omega arith) refl refl)) (b .ends .1) }
 
-pub opens-row : {v k : ℕ} → Version v → 1 ≤ k → k ≤ lastNumber → Opens (λ fs r. Row.RowFields v k r fs)
-opens-row {k = k} v l h = let x = from-offset v in record { fields = _; r = _; ends = Row.number (number-spelled k l h) (x .ends) }
+pub row-can-end : {v k : ℕ} → Version v → 1 ≤ k → k ≤ lastNumber → CanEnd (λ fs r. Row.RowFields v k r fs)
+row-can-end {k = k} v l h = let x = from-offset v in record { fields = _; r = _; ends = Row.number (number-spelled k l h) (x .ends) }
 
 -- A warning, and an error frame at position 2.
 
-warned : (o b k x i n : ℕ) → Opens (λ fs q. Row.WarningLength (ended o b k x i n 0) fs)
+warned : (o b k x i n : ℕ) → CanEnd (λ fs q. Row.WarningLength (ended o b k x i n 0) fs)
 warned o b k x i n =
     let z = zeros {Then = Row.Words} Row.none (256 ^ 7) 4 in
     record { fields = _; r = ended o b k x i n 0; ends = Row.warning-length (length-spelled 4 4 refl (omega arith)) (z .1) }
@@ -88,7 +88,7 @@ second = let z = zeros Row.nothing (256 ^ 5) 2 in (_, Row.second (hex-spells Cap
 first : (fs : List (List ℕ)) × Row.ErrorFirst (2 * 256 ^ 6) fs
 first = (_, Row.first (hex-spells Capital 2 0 (omega arith)) (omega arith) (second .1) refl)
 
-failed : (o b x i : ℕ) → Opens (λ fs q. Row.ErrorLength (ended o b 5 x i 4 (2 * 256 ^ 6)) fs)
+failed : (o b x i : ℕ) → CanEnd (λ fs q. Row.ErrorLength (ended o b 5 x i 4 (2 * 256 ^ 6)) fs)
 failed o b x i = record { fields = _; r = ended o b 5 x i 4 0; ends = Row.error-length refl (length-spelled 4 4 refl (omega arith)) (first .1) }
 
 -- From each stage on.
@@ -96,30 +96,30 @@ failed o b x i = record { fields = _; r = ended o b 5 x i 4 0; ends = Row.error-
 abbrev with-data : Record → ℕ → Record
 with-data r word = ended (r .offset) (r .bus) (r .kind) (r .extended) (r .id) (r .len) word
 
-opens-at : (x : Stage) (p : Part) → goodAt x p → Opens (continuesAt x p)
-opens-at (stage.Offset v) p g = from-offset (g .0)
-opens-at stage.Bus p g = from-bus (p .r .offset)
-opens-at stage.TypeColumn p g = record { fields = _; r = _; ends = (refl, from-type (p .r .offset) (p .r .bus)) }
-opens-at stage.Id p g = record { fields = _; r = _; ends = (refl, from-id (p .r .offset) (p .r .bus) (p .r .kind)) }
-opens-at stage.Length p g = record { fields = _; r = _; ends = (refl, from-length (p .r .offset) (p .r .bus) (p .r .kind) (p .r .extended) (p .r .id)) }
-opens-at stage.Data p g =
+can-end-at : (x : Stage) (p : Part) → goodAt x p → CanEnd (continuesAt x p)
+can-end-at (stage.Offset v) p g = from-offset (g .0)
+can-end-at stage.Bus p g = from-bus (p .r .offset)
+can-end-at stage.TypeColumn p g = record { fields = _; r = _; ends = (refl, from-type (p .r .offset) (p .r .bus)) }
+can-end-at stage.Id p g = record { fields = _; r = _; ends = (refl, from-id (p .r .offset) (p .r .bus) (p .r .kind)) }
+can-end-at stage.Length p g = record { fields = _; r = _; ends = (refl, from-length (p .r .offset) (p .r .bus) (p .r .kind) (p .r .extended) (p .r .id)) }
+can-end-at stage.Data p g =
     record { fields = _; r = _; ends = (refl, from-data (p .r .offset) (p .r .bus) (p .r .kind) (p .r .extended) (p .r .id) (p .r .len)) }
-opens-at stage.Bytes p g =
+can-end-at stage.Bytes p g =
     record { fields = _; r = p .r; ends = record { known = refl; sum = 0; bytes = zeros Row.nothing (p .place) (p .left) .1; total = sym (add-zero (p .r .«data»)) } }
-opens-at stage.WarningId p g =
+can-end-at stage.WarningId p g =
     let w = warned (p .r .offset) (p .r .bus) 4 0 0 4 in
     record { fields = _; r = _; ends = (refl, Row.warning-id refl (record { extended = refl; id = refl; len = refl }) (hex-spells Capital 8 0xFFFFFFFF (omega arith)) (w .ends)) }
-opens-at stage.WarningLength p g = let w = warned (p .r .offset) (p .r .bus) (p .r .kind) (p .r .extended) (p .r .id) (p .r .len) in record { fields = _; r = _; ends = (refl, w .ends) }
-opens-at stage.WarningBytes p g =
+can-end-at stage.WarningLength p g = let w = warned (p .r .offset) (p .r .bus) (p .r .kind) (p .r .extended) (p .r .id) (p .r .len) in record { fields = _; r = _; ends = (refl, w .ends) }
+can-end-at stage.WarningBytes p g =
     record { fields = _; r = p .r; ends = record { known = refl; sum = 0; bytes = zeros Row.none (p .place) (p .left) .1; total = sym (add-zero (p .r .«data»)) } }
-opens-at stage.ErrorId p g =
+can-end-at stage.ErrorId p g =
     let w = failed (p .r .offset) (p .r .bus) 0 1 in
     record { fields = _; r = _; ends = (refl, Row.error-id refl refl (hex-spells Capital 4 1 (omega arith)) (one refl) (w .ends)) }
-opens-at stage.ErrorLength p g =
+can-end-at stage.ErrorLength p g =
     let w = failed (p .r .offset) (p .r .bus) (p .r .extended) (p .r .id) in record { fields = _; r = _; ends = (refl, refl, w .ends) }
-opens-at stage.ErrorFirst p g = record { fields = _; r = with-data (p .r) (2 * 256 ^ 6); ends = (refl, first .1) }
-opens-at stage.ErrorSecond p g =
+can-end-at stage.ErrorFirst p g = record { fields = _; r = with-data (p .r) (2 * 256 ^ 6); ends = (refl, first .1) }
+can-end-at stage.ErrorSecond p g =
     record { fields = _; r = with-data (p .r) (p .r .«data» + 2 * 256 ^ 6); ends = record { known = refl; sum = 2 * 256 ^ 6; bytes = second .1; total = refl } }
 
-pub opens : (p : Part) → Good p → Opens (Continues p)
-opens p g = opens-at (p .stage) p g
+pub can-end : (p : Part) → Good p → CanEnd (Continues p)
+can-end p g = can-end-at (p .stage) p g
