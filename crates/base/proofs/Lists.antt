@@ -34,6 +34,14 @@ same-cut (x ∷ a) (y ∷ a′) {b} {b′} {c} {c′} e l =
     let r = same-cut a a′ t (omega arith) in
     (ap₂ (λ (z : ℕ) (u : List ℕ). z ∷ u) h (r .0), r .1, r .2)
 
+-- lists of one length and the same entries
+pub same-entries : (s t : List ℕ) → length s ≡ length t → ((i : ℕ) → i < length s → getD s i 0 ≡ getD t i 0) → s ≡ t
+same-entries [] [] e f = refl
+same-entries [] (y ∷ t) e f = absurd (omega arith)
+same-entries (x ∷ s) [] e f = absurd (omega arith)
+same-entries (x ∷ s) (y ∷ t) e f =
+    ap₂ (λ (z : ℕ) (u : List ℕ). z ∷ u) (f 0 (omega arith)) (same-entries s t (omega arith) (λ i l. f (suc i) (omega arith)))
+
 pub sets-append : (s t l : List ℕ) (i : ℕ) → sets l i (s ++ t) ≡ sets (sets l i s) (i + length s) t
 sets-append [] t l i = rw add-zero
 sets-append (x ∷ s) t l i = sets-append s t (set l i x) (suc i) ∙ rw (add-suc, suc-add)

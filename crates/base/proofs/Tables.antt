@@ -38,9 +38,12 @@ module _ {A : Type 0} where
 abbrev pub row : (ℕ → ℕ) → ℕ → List ℕ → Bool
 row f w xs = both (eqb (length xs) w) (every (λ k x. eqb x (f k)) 0 xs)
 
+pub row-length : (f : ℕ → ℕ) (w : ℕ) (xs : List ℕ) → T (row f w xs) → length xs ≡ w
+row-length f w xs t = eqb→eq (length xs) w (both-left (eqb (length xs) w) (every (λ k x. eqb x (f k)) 0 xs) t)
+
 pub flat : (f : ℕ → ℕ) (w : ℕ) (xs : List ℕ) → T (row f w xs) → (k : ℕ) → k < w → getD xs k 0 ≡ f k
 flat f w xs t k h =
-    let e = eqb→eq (length xs) w (both-left (eqb (length xs) w) (every (λ k x. eqb x (f k)) 0 xs) t) in
+    let e = row-length f w xs t in
     eqb→eq (getD xs k 0) (f k) (at (λ k x. eqb x (f k)) 0 xs (both-right (eqb (length xs) w) (every (λ k x. eqb x (f k)) 0 xs) t) k (omega arith))
 
 -- v rows of w entries, the entry j of row i of which is f i j.

@@ -43,14 +43,18 @@ module _ {D : ℕ → ℕ → Type 0} {b most : ℕ} where
         let f = p .few in
         within y w z (p .digits) (rw (length-take-le i s (p .within)) (omega arith))
 
--- what the one byte's answer says, by its size
-pub is-digit : {x r : ℕ} → DigitOr255 x r → r < 16 → HexDigit x r
+-- what the table's answer for a byte says, by its size
+pub is-digit : {x r : ℕ} → DigitOr255 x r → r < 255 → HexDigit x r
 is-digit (digit p) h = p
 is-digit (none f e) h = absurd (omega arith)
 
+-- a byte that is a digit is answered with one
+pub small-answer : {x r d : ℕ} → DigitOr255 x r → HexDigit x d → r < 16
+small-answer (digit p) q = hex .small p
+small-answer (none f e) q = absurd (f _ q)
+
 pub no-digit : {x r : ℕ} → DigitOr255 x r → 16 ≤ r → (d : ℕ) → HexDigit x d → ⊥
-no-digit (digit p) h d q = let s = hex .small p in omega arith
-no-digit (none f e) h d q = f d q
+no-digit a h d q = let s = small-answer a q in omega arith
 
 -- the callee's answer, carried to another relation
 pub same-answer : {P Q : ℕ → Type 0} (r : Number) → ((n : ℕ) → P n → Q n) → ((n : ℕ) → Q n → P n) → Answers P r → Answers Q r

@@ -2,15 +2,19 @@
 use Prim.Native.Nat.{ℕ, suc, _^_, _≤_, _<_}
 use mathlib.Core.Path.{_≡_, sym, _∙_}
 use mathlib.Core.List.{List}
-use lib.ListN.{length}
+use native.Mathlib.Omega.{arith}
+use lib.ListN.{length, getD}
+use Rattle.base.proofs.Lists.{same-entries}
 use Rattle.digits.specs.declared.Letters.{Letters}
 use Rattle.digits.specs.declared.Letters.the-variants.{Capital, Small}
 use Rattle.digits.specs.declared.Number.{Number}
 use Rattle.digits.specs.inner.Answer.{Answers, DigitOr255, digit, none, ReadDecimal, ReadPadded, ReadHex}
+use Rattle.digits.specs.inner.HexTable.{HexTable}
 use Rattle.digits.specs.Digits.{CasedDigit, HexDigit, capital, small, Digits, Decimal, Padded, Hex, CasedHex}
 use Rattle.digits.specs.Digits.{none as empty, more}
 use Rattle.digits.specs.House.{tenOf, hexText, paddedText, decimalText}
 use Rattle.digits.proofs.House.{few, padded-spells, padded-only, cased-spells, cased-only, decimal-spells, decimal-only}
+use Rattle.digits.proofs.HexDigits.{hexOf, hex-of}
 use Rattle.digits.proofs.Readers.{one-answer}
 use Rattle.digits.proofs.Strings.{unique, below, decimal, hex}
 
@@ -79,3 +83,12 @@ one-digit (digit p) (digit q) = hex .one p q
 one-digit {a = a} (digit p) (none f e) = absurd (f a p)
 one-digit {b = b} (none f e) (digit q) = absurd (f b q)
 one-digit (none f e) (none g h) = e ∙ sym h
+
+-- and so does that of the table of hexadecimal digits
+pub one-table : {t u : List ℕ} → HexTable t → HexTable u → t ≡ u
+one-table {t} {u} p q =
+    same-entries t u (p .long ∙ sym (q .long)) (λ b l. let h : b < 256 = omega (arith, p .long) in one-digit (p .entry b h) (q .entry b h))
+
+-- each entry, by the bounds of figures and letters
+pub entry-of : {t : List ℕ} → HexTable t → (b : ℕ) → b < 256 → getD t b 0 ≡ hexOf b
+entry-of p b h = one-digit (p .entry b h) (hex-of b)

@@ -27,10 +27,6 @@ pub data HexDigit (x d : ℕ) : Type 0 where
   capital : CasedDigit (code "A") x d → HexDigit x d
   small : CasedDigit (code "a") x d → HexDigit x d
 
--- The byte x is some hexadecimal digit.
-abbrev pub IsHex : ℕ → Type 0
-IsHex x = (d : ℕ) × HexDigit x d
-
 -- The bytes are the digits of a number in base b, by place value; D says which byte is which digit. One relation for digit strings of
 -- every length.
 pub data Digits (D : ℕ → ℕ → Type 0) (b : ℕ) : List ℕ → ℕ → Type 0 where

@@ -1,3 +1,4 @@
 pub mod Answer
+pub mod HexTable
 pub mod Pairs
 pub mod Kept

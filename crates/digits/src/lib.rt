@@ -1,19 +1,21 @@
 // Numbers as digit strings: read from bytes, and written as the house spells them.
+mod hex;
+
 use base::put_text;
 use base::put_three;
 use base::wide;
+pub use hex::hex_digit;
+pub use hex::hex_table;
 ghost use mathlib.Core.Path.{_≡_};
 ghost use mathlib.Core.List.{_∷_};
 ghost use Prim.Native.Nat.{_+_, _*_, _^_, _≤_, _<_};
 ghost use lib.ListN.{length};
 ghost use Rattle.digits.specs.inner.Pairs.{PairsOf};
-ghost use Rattle.base.specs.inner.Decides.{Decides};
 ghost use Rattle.base.specs.Spaced.{spaced};
 ghost use Rattle.base.specs.Text.{blank};
 ghost use Rattle.base.specs.inner.Wrote.{Wrote};
 ghost use Rattle.digits.specs.declared.Letters.{Letters};
-ghost use Rattle.digits.specs.inner.Answer.{Answers, DigitOr255, ReadDecimal, ReadPadded, ReadHex};
-ghost use Rattle.digits.specs.Digits.{HexDigit, IsHex};
+ghost use Rattle.digits.specs.inner.Answer.{Answers, ReadDecimal, ReadPadded, ReadHex};
 ghost use Rattle.digits.specs.House.{glyphOf, paddedText, hexText, decimalText, byteTexts};
 ghost use Rattle.digits.specs.inner.Kept.{Kept};
 
@@ -26,45 +28,6 @@ pub enum Number {
 pub enum Letters {
     Capital,
     Small,
-}
-
-// One bit for each byte from `0` to `f`, the lowest for `0`: 1 for a hexadecimal digit.
-const HEX_DIGITS: u64 = 0x7E_0000_007E_03FF;
-
-// Whether a byte is a hexadecimal digit of either letter case. No branch tells figures from letters: a text mixes the two, and a branch
-// that cannot be predicted is slow.
-pub fn is_hex(b: u8) -> bool
-    ensures { λ r. ⌜ Decides (IsHex b) r ⌝ }
-{
-    if b < b'0' {
-        return false;
-    }
-    if b'f' < b {
-        return false;
-    }
-    if (HEX_DIGITS >> (b - b'0') as u64) % 2 == 0 {
-        return false;
-    }
-    true
-}
-
-// The hexadecimal digit that a byte is. Its low four bits are a figure's digit, or a letter's digit less 9; only letters are 64 or more.
-pub fn hex_value(b: u8) -> u64
-    requires { ⌜ IsHex b ⌝ }
-    ensures { λ v. ⌜ HexDigit b v ⌝ }
-{
-    let n = wide(b);
-    n % 16 + 9 * (n / 64)
-}
-
-// The hexadecimal digit that a byte is, or 255.
-pub fn hex_digit(b: u8) -> u8
-    ensures { λ r. ⌜ DigitOr255 b r ⌝ }
-{
-    if !is_hex(b) {
-        return 255;
-    }
-    hex_value(b) as u8
 }
 
 // The number that decimal digits spell, zeros kept.
@@ -112,10 +75,11 @@ pub fn read_hex(s: &[u8]) -> Number
     if 16 < s.len() {
         return Number::Not;
     }
+    let hex = hex_table();
     let mut n: u64 = 0;
     let mut i = 0;
     while i < s.len() {
-        let d = hex_digit(s[i]);
+        let d = hex_digit(s[i], &hex);
         if 16 <= d {
             return Number::Not;
         }

@@ -1,6 +1,7 @@
 // Texts with escapes: `\r`, `\n`, `\t`, a backslash as `\\`, and any byte as `\xff`. At each byte it is known what is begun by those before it.
 use base::wide;
 use digits::hex_digit;
+use digits::hex_table;
 ghost use mathlib.Core.Path.{_≡_};
 ghost use mathlib.Core.List.{List, [], _∷_, _++_};
 ghost use Prim.Native.Nat.{ℕ};
@@ -33,7 +34,10 @@ pub fn after(begun: u64, b: u8) -> u64
             }
             NOTHING
         }
-        HEX => DIGIT + 16 * wide(hex_digit(b)),
+        HEX => {
+            let hex = hex_table();
+            DIGIT + 16 * wide(hex_digit(b, &hex))
+        }
         _ => NOTHING,
     }
 }
@@ -50,6 +54,9 @@ pub fn ended(begun: u64, b: u8) -> u8
             b't' => b'\t',
             _ => b,
         },
-        _ => ((begun % 256 + wide(hex_digit(b))) % 256) as u8,
+        _ => {
+            let hex = hex_table();
+            ((begun % 256 + wide(hex_digit(b, &hex))) % 256) as u8
+        }
     }
 }

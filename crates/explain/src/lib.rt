@@ -1,5 +1,6 @@
 // Tells what is wrong with a line that is no row: which field, or that it ended early. The fields are taken one after the other by the stages of the
 // row reader (`stages`), each in a window of its own, and in a loop: a line has no limit here, and calls that nest would grow with it.
+use digits::hex_table;
 use fields::LAST_NUMBER;
 use fields::WINDOW;
 use lines::Remark;
@@ -17,6 +18,7 @@ use stages::take_number;
 ghost use Prim.Native.Nat.{ℕ, _≤_, _<_};
 ghost use lib.ListN.{length};
 ghost use Rattle.base.specs.inner.Decides.{Decides};
+ghost use Rattle.digits.specs.inner.HexTable.{HexTable};
 ghost use Rattle.fields.specs.Columns.{lastNumber};
 ghost use Rattle.fields.specs.Parted.{NoBlank};
 ghost use Rattle.fields.specs.Runs.{All};
@@ -82,24 +84,30 @@ fn first(f: &[u8], version: u64, number: u64, w: &mut [u8; WINDOW]) -> Step
 }
 
 // What a later field makes of a state. One that is too long for any other is a word, and its first bytes are one, too.
-fn step(f: &[u8], p: Part, w: &mut [u8; WINDOW]) -> Step
-    requires { ⌜ Field (now f) × Good p ⌝ }
+fn step(f: &[u8], p: Part, w: &mut [u8; WINDOW], hex: &[u8; 256]) -> Step
+    requires { ⌜ Field (now f) × Good p × HexTable (now hex) ⌝ }
     ensures { λ t. ⌜ Moves (Continues p) (now (f .entry)) t ⌝ }
 {
     if f.len() <= LONGEST {
         window(f, w);
-        return take_field(w, 0, p);
+        return take_field(w, 0, hex, p);
     }
     if run_end(f, 0, b'A', b'Z') != f.len() {
         return Step { at: 0, part: p };
     }
     window(&f[..WORD], w);
-    take_field(w, 0, p)
+    take_field(w, 0, hex, p)
 }
 
 // Takes the fields from a place on, behind the first.
-fn explain_fields(line: &[u8], from: usize, start: Part, w: &mut [u8; WINDOW]) -> Explained
-    requires { ⌜ All Inside (now line) × (1 ≤ from) × (from ≤ length (now line)) × Good start ⌝ }
+fn explain_fields(
+    line: &[u8],
+    from: usize,
+    start: Part,
+    w: &mut [u8; WINDOW],
+    hex: &[u8; 256],
+) -> Explained
+    requires { ⌜ All Inside (now line) × (1 ≤ from) × (from ≤ length (now line)) × Good start × HexTable (now hex) ⌝ }
     ensures { λ x. ⌜ ((v k : ℕ) → FieldsBefore v k (now (line .entry)) (Continues start) from 1 → FoundIn v k (now (line .entry)) x) ⌝ }
 {
     let mut p = start;
@@ -114,7 +122,7 @@ fn explain_fields(line: &[u8], from: usize, start: Part, w: &mut [u8; WINDOW]) -
             return Explained::Early(i);
         }
         let e = field_end(line, a);
-        let t = step(&line[a..e], p, w);
+        let t = step(&line[a..e], p, w, hex);
         if t.at == 0 {
             return Explained::Wrong(i + 1);
         }
@@ -144,7 +152,8 @@ fn explain_row(line: &[u8], version: u64, number: u64) -> Explained
         return Explained::Wrong(1);
     }
     let part = t.part;
-    explain_fields(line, e, part, &mut w)
+    let hex = hex_table();
+    explain_fields(line, e, part, &mut w, &hex)
 }
 
 // Explains a line that was to be the row with this number in this version.

@@ -1,8 +1,7 @@
 // Skips the gap before a field of the window, and reads single fields of it. A field is read without searching its end first: what stops its digits must end it.
 // Each reader takes the window as a slice first, `bytes`: a proof learns the length of an array behind a reference in no other way.
 use base::wide;
-use digits::hex_value;
-use digits::is_hex;
+use digits::hex_digit;
 ghost use mathlib.Core.Path.{_≡_};
 ghost use mathlib.Core.Logic.{_⊎_};
 ghost use mathlib.Core.List.{[], _∷_};
@@ -11,6 +10,7 @@ ghost use lib.ListN.{length, getD, drop};
 ghost use Rattle.base.specs.inner.Decides.{Decides};
 ghost use Rattle.base.specs.Text.{text, blank, cr};
 ghost use Rattle.digits.specs.Digits.{DecimalDigit, HexDigit, Hex};
+ghost use Rattle.digits.specs.inner.HexTable.{HexTable};
 ghost use Rattle.fields.specs.Runs.{All};
 ghost use Rattle.fields.specs.Columns.{NumberField, OffsetField, BusField, LengthField, Capital, remoteText};
 ghost use Rattle.fields.specs.inner.Window.{windowBytes, Lined, Skipped, Solid, Starts, Scanned, Takes, HexField, TypeField};
@@ -106,18 +106,19 @@ fn decimal(w: &[u8; WINDOW], at: usize) -> Scan
 }
 
 // The hexadecimal digits from a place on, at most nine.
-fn hexadecimal(w: &[u8; WINDOW], at: usize) -> Scan
-    requires { ⌜ Lined (drop at (now w)) ⌝ }
+fn hexadecimal(w: &[u8; WINDOW], at: usize, hex: &[u8; 256]) -> Scan
+    requires { ⌜ Lined (drop at (now w)) × HexTable (now hex) ⌝ }
     ensures { λ s. ⌜ Scanned HexDigit 16 9 (now (w .entry)) at s ⌝ }
 {
     let bytes: &[u8] = w;
     let mut n: u64 = 0;
     let mut i = at;
     while i < at + 9 {
-        if !is_hex(bytes[i]) {
+        let d = wide(hex_digit(bytes[i], hex));
+        if 15 < d {
             return Scan { end: i, value: n };
         }
-        n = n * 16 + hex_value(bytes[i]);
+        n = n * 16 + d;
         i += 1;
     }
     Scan { end: i, value: n }
@@ -276,12 +277,12 @@ pub fn type_field(w: &[u8; WINDOW], at: usize) -> Scan
 }
 
 // A hexadecimal number of at most eight digits.
-pub fn hex_field(w: &[u8; WINDOW], at: usize) -> Scan
-    requires { ⌜ Starts (now w) at ⌝ }
+pub fn hex_field(w: &[u8; WINDOW], at: usize, hex: &[u8; 256]) -> Scan
+    requires { ⌜ Starts (now w) at × HexTable (now hex) ⌝ }
     ensures { λ s. ⌜ Takes HexField (now (w .entry)) at s ⌝ }
 {
     let bytes: &[u8] = w;
-    let s = hexadecimal(w, at);
+    let s = hexadecimal(w, at, hex);
     let e = s.end;
     if e == at {
         return none();
@@ -320,16 +321,15 @@ pub fn length_field(w: &[u8; WINDOW], at: usize) -> Scan
     }
 }
 
-// A byte of two hexadecimal digits.
-pub fn byte_field(w: &[u8; WINDOW], at: usize) -> Scan
-    requires { ⌜ Starts (now w) at ⌝ }
+// A byte of two hexadecimal digits. One test judges both: two digits are at most 30 together, and with 255 for one that is none they are more.
+pub fn byte_field(w: &[u8; WINDOW], at: usize, hex: &[u8; 256]) -> Scan
+    requires { ⌜ Starts (now w) at × HexTable (now hex) ⌝ }
     ensures { λ s. ⌜ Takes (Hex 2) (now (w .entry)) at s ⌝ }
 {
     let bytes: &[u8] = w;
-    if !is_hex(bytes[at]) {
-        return none();
-    }
-    if !is_hex(bytes[at + 1]) {
+    let high = wide(hex_digit(bytes[at], hex));
+    let low = wide(hex_digit(bytes[at + 1], hex));
+    if 30 < high + low {
         return none();
     }
     if !ends(bytes[at + 2]) {
@@ -337,7 +337,7 @@ pub fn byte_field(w: &[u8; WINDOW], at: usize) -> Scan
     }
     Scan {
         end: at + 2,
-        value: hex_value(bytes[at]) * 16 + hex_value(bytes[at + 1]),
+        value: high * 16 + low,
     }
 }
 

@@ -9,6 +9,7 @@ use native.Mathlib.Omega.{arith}
 use lib.ListN.{getD, drop}
 use Rattle.base.specs.inner.Decides.{Decides}
 use Rattle.base.proofs.Tests.{shown, refuted}
+use Rattle.digits.specs.inner.HexTable.{HexTable}
 use Rattle.fields.specs.inner.Window.{Lined, Skipped, Starts}
 use Rattle.fields.proofs.Parts.{only-none}
 use Rattle.record.specs.declared.Record.{Record}
@@ -45,8 +46,8 @@ module _ {w : List ℕ} {at a : ℕ} (k : Skipped w at a) where
 
     module _ {x : Stage} {left place word : ℕ} {out : List ℕ} where
       -- what the field asks
-      pub gap-field : b ≡ false → Ready x left place word out → Starts w a × Ready x left place word out
-      gap-field e r = (gap-starts-at e, r)
+      pub gap-field : {hex : List ℕ} → b ≡ false → Ready x left place word out → HexTable hex → Starts w a × Ready x left place word out × HexTable hex
+      gap-field e r t = (gap-starts-at e, r, t)
 
       -- the line ends at a stage that no row ends in
       pub gap-early : {o : List ℕ} → b ≡ true → last x ≡ false → Ready x left place word out → Goes (known x left place word out) w at o 0
@@ -72,9 +73,10 @@ module _ {w : List ℕ} {at : ℕ} where
   link s n g line l = field-found s n l g
 
   -- what the next gap asks
-  pub next : {C : List (List ℕ) → Record → Type 0} {a left place word : ℕ} {x : Stage} {out : List ℕ}
-      → Steps w at C (behind a x left place (seen out word)) → a ≢ 0 → Starts w at → Lined (drop a w) × Ready x left place word out
-  next s n k = let o = onward s n k in (o .lined, record { good = o .good })
+  pub next : {C : List (List ℕ) → Record → Type 0} {a left place word : ℕ} {x : Stage} {out hex : List ℕ}
+      → Steps w at C (behind a x left place (seen out word)) → a ≢ 0 → Starts w at → HexTable hex
+      → Lined (drop a w) × Ready x left place word out × HexTable hex
+  next s n k t = let o = onward s n k in (o .lined, record { good = o .good }, t)
 
   -- no row goes on with the field
   pub stop : {C : List (List ℕ) → Record → Type 0} {o : List ℕ} (t : Step) → Steps w at C t → t .at ≡ 0 → Starts w at → Leads C w at o 0

@@ -7,6 +7,7 @@ mod head;
 mod slots;
 mod warning;
 
+use digits::hex_table;
 use fields::WINDOW;
 use lines::LINE_LIMIT;
 use record::Record;
@@ -15,6 +16,7 @@ ghost use mathlib.Core.Path.{_≡_};
 ghost use mathlib.Core.List.{List, _∷_, _++_};
 ghost use Prim.Native.Nat.{ℕ, _+_, _<_};
 ghost use lib.ListN.{length, drop};
+ghost use Rattle.digits.specs.inner.HexTable.{HexTable};
 ghost use Rattle.fields.specs.inner.Window.{windowBytes, LineBeforeCr, Lined};
 ghost use Rattle.base.specs.Text.{cr};
 ghost use Rattle.row_reader.specs.inner.Answer.{ReadsRow, RowFound};
@@ -27,11 +29,18 @@ pub enum Reading {
 
 // Reads the line at a place of a window as row k of a version: one more than the place of its CR, and the record's fields in `out`; or 0, and
 // then `out` is scratch.
-pub fn row_in(w: &[u8; WINDOW], at: usize, version: u64, k: u64, out: &mut [u64; 7]) -> usize
-    requires { ⌜ Lined (drop at (now w)) ⌝ }
+pub fn row_in(
+    w: &[u8; WINDOW],
+    at: usize,
+    hex: &[u8; 256],
+    version: u64,
+    k: u64,
+    out: &mut [u64; 7],
+) -> usize
+    requires { ⌜ Lined (drop at (now w)) × HexTable (now hex) ⌝ }
     ensures { λ e. ⌜ ((line : List ℕ) → LineBeforeCr line (drop at (now (w .entry))) → RowFound version k at line (now (out .exit)) e) ⌝ }
 {
-    head::gap_number(w, at, version, k, out)
+    head::gap_number(w, at, hex, version, k, out)
 }
 
 // Puts bytes at the front of a window, and CR behind them.
@@ -67,7 +76,8 @@ pub fn read_row(line: &[u8], version: u64, k: u64) -> Reading
     let mut w = no_window();
     window(line, &mut w);
     let mut out = [0u64; 7];
-    let e = row_in(&w, 0, version, k, &mut out);
+    let hex = hex_table();
+    let e = row_in(&w, 0, &hex, version, k, &mut out);
     if e != n + 1 {
         return Reading::Not;
     }

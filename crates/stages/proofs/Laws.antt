@@ -3,6 +3,7 @@ use Prim.Native.Nat.{ℕ, _*_, _-_, _/_}
 use mathlib.Core.Path.{_≡_, refl, sym, subst}
 use mathlib.Core.List.{List}
 use Rattle.digits.specs.Digits.{Hex}
+use Rattle.digits.specs.inner.HexTable.{HexTable}
 use Rattle.fields.specs.declared.Scan.{Scan}
 use Rattle.fields.specs.inner.Window.{Starts}
 use Rattle.row.specs.declared.Part.{Part}
@@ -20,8 +21,12 @@ byted p g e = rw e (one-byte (g .there) (g .place) (g .has) refl)
 -- An arm of `take_field`: the state stands at the stage x.
 module _ (p : Part) {x : Stage} (e : p .stage ≡ x) {w : List ℕ} {at : ℕ} where
   -- what the function of that stage asks
-  pub asked : Starts w at × Good p → Starts w at × goodAt x p
+  pub asked : {hex : List ℕ} → Starts w at × Good p × HexTable hex → Starts w at × goodAt x p
   asked h = (h .0, subst (λ (y : Stage). goodAt y p) e (h .1))
+
+  -- and with the table, where its field has hexadecimal digits
+  pub asked-hex : {hex : List ℕ} → Starts w at × Good p × HexTable hex → Starts w at × goodAt x p × HexTable hex
+  asked-hex h = (h .0, asked h .1, h .2)
 
   -- what it promises
   pub answered : {t : Step} → Steps w at (continuesAt x p) t → Steps w at (Continues p) t

@@ -9,17 +9,18 @@ use row::SECOND_PLACE;
 use row::Stage;
 use row::Step;
 use row::THIRD_PLACE;
+ghost use Rattle.digits.specs.inner.HexTable.{HexTable};
 ghost use Rattle.fields.specs.inner.Window.{Starts};
 ghost use Rattle.row.specs.declared.Stage.the-variants as stage;
 ghost use Rattle.row.specs.inner.Stages.{Steps, continuesAt, goodAt};
 
 // The ID.
-pub fn error_id(w: &[u8; WINDOW], at: usize, p: Part) -> Step
-    requires { ⌜ Starts (now w) at × goodAt stage.ErrorId p ⌝ }
+pub fn error_id(w: &[u8; WINDOW], at: usize, hex: &[u8; 256], p: Part) -> Step
+    requires { ⌜ Starts (now w) at × goodAt stage.ErrorId p × HexTable (now hex) ⌝ }
     ensures { λ t. ⌜ Steps (now (w .entry)) at (continuesAt stage.ErrorId p) t ⌝ }
 {
     let mut r = p.r;
-    let s = fields::hex_field(w, at);
+    let s = fields::hex_field(w, at, hex);
     let e = s.end;
     if e == 0 {
         return wrong(r);
@@ -55,12 +56,12 @@ pub fn error_length(w: &[u8; WINDOW], at: usize, p: Part) -> Step
 }
 
 // The first byte: 0 or 1.
-pub fn error_first(w: &[u8; WINDOW], at: usize, p: Part) -> Step
-    requires { ⌜ Starts (now w) at × goodAt stage.ErrorFirst p ⌝ }
+pub fn error_first(w: &[u8; WINDOW], at: usize, hex: &[u8; 256], p: Part) -> Step
+    requires { ⌜ Starts (now w) at × goodAt stage.ErrorFirst p × HexTable (now hex) ⌝ }
     ensures { λ t. ⌜ Steps (now (w .entry)) at (continuesAt stage.ErrorFirst p) t ⌝ }
 {
     let mut r = p.r;
-    let s = fields::byte_field(w, at);
+    let s = fields::byte_field(w, at, hex);
     let e = s.end;
     if e == 0 {
         return wrong(r);
@@ -73,12 +74,12 @@ pub fn error_first(w: &[u8; WINDOW], at: usize, p: Part) -> Step
 }
 
 // The second byte: a position. Two bytes are left.
-pub fn error_second(w: &[u8; WINDOW], at: usize, p: Part) -> Step
-    requires { ⌜ Starts (now w) at × goodAt stage.ErrorSecond p ⌝ }
+pub fn error_second(w: &[u8; WINDOW], at: usize, hex: &[u8; 256], p: Part) -> Step
+    requires { ⌜ Starts (now w) at × goodAt stage.ErrorSecond p × HexTable (now hex) ⌝ }
     ensures { λ t. ⌜ Steps (now (w .entry)) at (continuesAt stage.ErrorSecond p) t ⌝ }
 {
     let mut r = p.r;
-    let s = fields::byte_field(w, at);
+    let s = fields::byte_field(w, at, hex);
     let e = s.end;
     if e == 0 {
         return wrong(r);

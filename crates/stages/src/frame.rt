@@ -10,17 +10,18 @@ use row::Step;
 use row::form;
 ghost use Prim.Native.Nat.{_+_, _*_, _^_, _≤_};
 ghost use mathlib.Core.Logic.{_≢_};
+ghost use Rattle.digits.specs.inner.HexTable.{HexTable};
 ghost use Rattle.fields.specs.inner.Window.{Starts};
 ghost use Rattle.row.specs.declared.Stage.the-variants as stage;
 ghost use Rattle.row.specs.inner.Stages.{Steps, Byted, continuesAt, goodAt};
 
 // The ID: its width says whether it is extended.
-pub fn id(w: &[u8; WINDOW], at: usize, p: Part) -> Step
-    requires { ⌜ Starts (now w) at × goodAt stage.Id p ⌝ }
+pub fn id(w: &[u8; WINDOW], at: usize, hex: &[u8; 256], p: Part) -> Step
+    requires { ⌜ Starts (now w) at × goodAt stage.Id p × HexTable (now hex) ⌝ }
     ensures { λ t. ⌜ Steps (now (w .entry)) at (continuesAt stage.Id p) t ⌝ }
 {
     let mut r = p.r;
-    let s = fields::hex_field(w, at);
+    let s = fields::hex_field(w, at, hex);
     let e = s.end;
     if e == 0 {
         return wrong(r);
@@ -50,8 +51,8 @@ pub fn length(w: &[u8; WINDOW], at: usize, p: Part) -> Step
 }
 
 // `RTR`, or the first data byte.
-pub fn data(w: &[u8; WINDOW], at: usize, p: Part) -> Step
-    requires { ⌜ Starts (now w) at × goodAt stage.Data p ⌝ }
+pub fn data(w: &[u8; WINDOW], at: usize, hex: &[u8; 256], p: Part) -> Step
+    requires { ⌜ Starts (now w) at × goodAt stage.Data p × HexTable (now hex) ⌝ }
     ensures { λ t. ⌜ Steps (now (w .entry)) at (continuesAt stage.Data p) t ⌝ }
 {
     let left = p.left;
@@ -65,12 +66,12 @@ pub fn data(w: &[u8; WINDOW], at: usize, p: Part) -> Step
     if left == 0 {
         return wrong(r);
     }
-    byte(w, at, Stage::Bytes, p)
+    byte(w, at, hex, Stage::Bytes, p)
 }
 
 // A data byte, if one is left.
-pub fn bytes(w: &[u8; WINDOW], at: usize, p: Part) -> Step
-    requires { ⌜ Starts (now w) at × goodAt stage.Bytes p ⌝ }
+pub fn bytes(w: &[u8; WINDOW], at: usize, hex: &[u8; 256], p: Part) -> Step
+    requires { ⌜ Starts (now w) at × goodAt stage.Bytes p × HexTable (now hex) ⌝ }
     ensures { λ t. ⌜ Steps (now (w .entry)) at (continuesAt stage.Bytes p) t ⌝ }
 {
     let left = p.left;
@@ -78,18 +79,18 @@ pub fn bytes(w: &[u8; WINDOW], at: usize, p: Part) -> Step
     if left == 0 {
         return wrong(r);
     }
-    byte(w, at, Stage::Bytes, p)
+    byte(w, at, hex, Stage::Bytes, p)
 }
 
 // One data byte more.
-pub fn byte(w: &[u8; WINDOW], at: usize, next: Stage, p: Part) -> Step
-    requires { ⌜ Starts (now w) at × (p .left ≢ 0) × (p .r .«data» + 256 * p .place ≤ 256 ^ 8) ⌝ }
+pub fn byte(w: &[u8; WINDOW], at: usize, hex: &[u8; 256], next: Stage, p: Part) -> Step
+    requires { ⌜ Starts (now w) at × (p .left ≢ 0) × (p .r .«data» + 256 * p .place ≤ 256 ^ 8) × HexTable (now hex) ⌝ }
     ensures { λ t. ⌜ Byted (now (w .entry)) at next p t ⌝ }
 {
     let left = p.left;
     let place = p.place;
     let mut r = p.r;
-    let s = fields::byte_field(w, at);
+    let s = fields::byte_field(w, at, hex);
     let e = s.end;
     if e == 0 {
         return wrong(r);

@@ -25,12 +25,13 @@ use row::Step;
 use warning::warning_bytes;
 use warning::warning_id;
 use warning::warning_length;
+ghost use Rattle.digits.specs.inner.HexTable.{HexTable};
 ghost use Rattle.fields.specs.inner.Window.{Starts};
 ghost use Rattle.row.specs.inner.Stages.{Steps, EndsRow, Continues, Good};
 
 // One field behind the row number, whatever the stage.
-pub fn take_field(w: &[u8; WINDOW], at: usize, p: Part) -> Step
-    requires { ⌜ Starts (now w) at × Good p ⌝ }
+pub fn take_field(w: &[u8; WINDOW], at: usize, hex: &[u8; 256], p: Part) -> Step
+    requires { ⌜ Starts (now w) at × Good p × HexTable (now hex) ⌝ }
     ensures { λ t. ⌜ Steps (now (w .entry)) at (Continues p) t ⌝ }
 {
     let stage = p.stage;
@@ -38,17 +39,17 @@ pub fn take_field(w: &[u8; WINDOW], at: usize, p: Part) -> Step
         Stage::Offset(version) => offset(w, at, version, p),
         Stage::Bus => bus(w, at, p),
         Stage::TypeColumn => type_column(w, at, p),
-        Stage::Id => id(w, at, p),
+        Stage::Id => id(w, at, hex, p),
         Stage::Length => length(w, at, p),
-        Stage::Data => data(w, at, p),
-        Stage::Bytes => bytes(w, at, p),
-        Stage::WarningId => warning_id(w, at, p),
+        Stage::Data => data(w, at, hex, p),
+        Stage::Bytes => bytes(w, at, hex, p),
+        Stage::WarningId => warning_id(w, at, hex, p),
         Stage::WarningLength => warning_length(w, at, p),
-        Stage::WarningBytes => warning_bytes(w, at, p),
-        Stage::ErrorId => error_id(w, at, p),
+        Stage::WarningBytes => warning_bytes(w, at, hex, p),
+        Stage::ErrorId => error_id(w, at, hex, p),
         Stage::ErrorLength => error_length(w, at, p),
-        Stage::ErrorFirst => error_first(w, at, p),
-        Stage::ErrorSecond => error_second(w, at, p),
+        Stage::ErrorFirst => error_first(w, at, hex, p),
+        Stage::ErrorSecond => error_second(w, at, hex, p),
     }
 }
 

@@ -8,17 +8,18 @@ use row::FIRST_PLACE;
 use row::Part;
 use row::Stage;
 use row::Step;
+ghost use Rattle.digits.specs.inner.HexTable.{HexTable};
 ghost use Rattle.fields.specs.inner.Window.{Starts};
 ghost use Rattle.row.specs.declared.Stage.the-variants as stage;
 ghost use Rattle.row.specs.inner.Stages.{Steps, continuesAt, goodAt};
 
 // The eight F.
-pub fn warning_id(w: &[u8; WINDOW], at: usize, p: Part) -> Step
-    requires { ⌜ Starts (now w) at × goodAt stage.WarningId p ⌝ }
+pub fn warning_id(w: &[u8; WINDOW], at: usize, hex: &[u8; 256], p: Part) -> Step
+    requires { ⌜ Starts (now w) at × goodAt stage.WarningId p × HexTable (now hex) ⌝ }
     ensures { λ t. ⌜ Steps (now (w .entry)) at (continuesAt stage.WarningId p) t ⌝ }
 {
     let mut r = p.r;
-    let s = fields::hex_field(w, at);
+    let s = fields::hex_field(w, at, hex);
     let e = s.end;
     if e == 0 {
         return wrong(r);
@@ -54,15 +55,15 @@ pub fn warning_length(w: &[u8; WINDOW], at: usize, p: Part) -> Step
 }
 
 // A data byte, and behind the last any word.
-pub fn warning_bytes(w: &[u8; WINDOW], at: usize, p: Part) -> Step
-    requires { ⌜ Starts (now w) at × goodAt stage.WarningBytes p ⌝ }
+pub fn warning_bytes(w: &[u8; WINDOW], at: usize, hex: &[u8; 256], p: Part) -> Step
+    requires { ⌜ Starts (now w) at × goodAt stage.WarningBytes p × HexTable (now hex) ⌝ }
     ensures { λ t. ⌜ Steps (now (w .entry)) at (continuesAt stage.WarningBytes p) t ⌝ }
 {
     let left = p.left;
     let place = p.place;
     let r = p.r;
     if left != 0 {
-        return byte(w, at, Stage::WarningBytes, p);
+        return byte(w, at, hex, Stage::WarningBytes, p);
     }
     let s = fields::word_field(w, at);
     let e = s.end;

@@ -1,15 +1,21 @@
 -- Wrong answers of the readers and writers of digits, and of the test of a record: each is refuted over the relation or the text that the function
 -- promises.
-use Prim.Native.Nat.{ℕ, _%_, _^_, _-_, _<_}
+use Prim.Native.Nat.{ℕ, suc, _%_, _^_, _-_, _<_}
 use mathlib.Core.Path.{_≡_, refl, ap}
 use mathlib.Core.Logic.{_≢_, inl}
 use mathlib.Core.List.{List, [], _∷_}
 use native.Mathlib.Omega.{arith}
 use lib.ListN.{length, getD}
+use Rattle.digits.specs.inner.Answer.{DigitOr255, digit}
+use Rattle.digits.specs.inner.Answer.{none as no-digit}
+use Rattle.digits.specs.inner.HexTable.{HexTable}
 use Rattle.digits.specs.inner.Pairs.{PairsOf}
-use Rattle.digits.specs.Digits.{DecimalDigit, Digits, HexDigit, IsHex, capital, small, figure, letter, none, more, Decimal, Padded}
+use Rattle.digits.specs.Digits.{DecimalDigit, Digits, HexDigit, capital, small, figure, letter, none, more, Decimal, Padded}
 use Rattle.digits.specs.declared.Letters.{Letters}
 use Rattle.digits.specs.declared.Letters.the-variants.{Capital}
+use Rattle.digits.proofs.HexDigits.{hexOf}
+use Rattle.digits.proofs.Strings.{hex}
+use Rattle.digits.proofs.Theorems.{one-digit, entry-of}
 use Rattle.digits.specs.House.{glyphOf, fixed, spell, paddedText, hexText, decimalText}
 use Rattle.record.specs.declared.Record.{Record}
 use Rattle.record.specs.Record.{recordOf, WellFormed, ErrorId, one, two, four, eight, Position, low, middle, high}
@@ -24,14 +30,34 @@ between-ranges a b (small (figure p)) = omega (arith, p .value, p .byte)
 between-ranges a b (small (letter p)) = omega (arith, p .low, p .byte)
 
 -- `a` is a digit, and `A` is ten and not eleven
-pub small-refused : (IsHex 97 → ⊥) → ⊥
-small-refused f = f (10, small (letter (record { low = omega arith; high = omega arith; byte = refl })))
+pub small-refused : DigitOr255 97 255 → ⊥
+small-refused (digit p) = omega (arith, hex .small p)
+small-refused (no-digit f e) = f 10 (small (letter (record { low = omega arith; high = omega arith; byte = refl })))
 
 pub letter-one-more : HexDigit 65 11 → ⊥
 letter-one-more (capital (figure p)) = omega (arith, p .value)
 letter-one-more (capital (letter p)) = omega (arith, p .byte)
 letter-one-more (small (figure p)) = omega (arith, p .value)
 letter-one-more (small (letter p)) = omega (arith, p .byte)
+
+-- the table of hexadecimal digits: an entry off by one, whichever it is; `@` or `G` as a digit; 255 for `f`; one entry short
+pub entry-one-more : {t : List ℕ} {b d : ℕ} → HexTable t → b < 256 → HexDigit b d → getD t b 0 ≡ suc d → ⊥
+entry-one-more {b = b} p l q e = omega (arith, one-digit (p .entry b l) (digit q))
+
+pub at-sign-taken : {t : List ℕ} → HexTable t → getD t 64 0 ≢ 255 → ⊥
+unfolding hexOf
+at-sign-taken p n = n (entry-of p 64 (omega arith))
+
+pub g-taken : {t : List ℕ} → HexTable t → getD t 71 0 ≢ 255 → ⊥
+unfolding hexOf
+g-taken p n = n (entry-of p 71 (omega arith))
+
+pub f-refused : {t : List ℕ} → HexTable t → getD t 102 0 ≡ 255 → ⊥
+unfolding hexOf
+f-refused p e = omega (arith, entry-of p 102 (omega arith))
+
+pub entry-short : {t : List ℕ} → HexTable t → length t ≡ 255 → ⊥
+entry-short p e = omega (arith, p .long)
 
 -- no decimal number has a leading zero
 pub leading-zero : {n x : ℕ} {s : List ℕ} → Decimal n (48 ∷ x ∷ s) → ⊥

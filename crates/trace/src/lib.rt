@@ -1,4 +1,5 @@
 // A whole trace: read from text into packed records, in two passes. The first judges every line and counts, the second fills.
+use digits::hex_table;
 use fields::WINDOW;
 use lines::Ending;
 use lines::LINE_LIMIT;
@@ -13,6 +14,7 @@ use row_reader::row_in;
 use row_reader::window;
 ghost use Prim.Native.Nat.{_≤_};
 ghost use lib.ListN.{length};
+ghost use Rattle.digits.specs.inner.HexTable.{HexTable};
 ghost use Rattle.trace.specs.Trace.{sizeLimit};
 ghost use Rattle.trace.specs.Promise.{readNumbers, ReadPromise};
 ghost use Rattle.trace.specs.inner.Passes.{Windowed, Reaches, RowAt, Says, Versioned, Headed, Heads, Judges, RecordsFit, Filled};
@@ -163,12 +165,13 @@ fn row_at(
     k: u64,
     from: usize,
     w: &[u8; WINDOW],
+    hex: &[u8; 256],
     fields: &mut [u64; 7],
 ) -> usize
-    requires { ⌜ Reaches (now text) at from (now w) × (at ≤ length (now text)) ⌝ }
+    requires { ⌜ Reaches (now text) at from (now w) × (at ≤ length (now text)) × HexTable (now hex) ⌝ }
     ensures { λ n. ⌜ RowAt (now (text .entry)) at version k (now (fields .exit)) n ⌝ }
 {
-    let e = row_in(w, at - from, version, k, fields);
+    let e = row_in(w, at - from, hex, version, k, fields);
     if e == 0 {
         return 0;
     }
@@ -206,8 +209,8 @@ fn other_at(text: &[u8], at: usize) -> Other
 }
 
 // The first pass, from line 3 on: every line is judged, and the rows are counted.
-fn judge(text: &[u8], from: usize, version: u64, start: u64) -> Judged
-    requires { ⌜ Headed (now text) from version start × (length (now text) ≤ sizeLimit) ⌝ }
+fn judge(text: &[u8], from: usize, version: u64, start: u64, hex: &[u8; 256]) -> Judged
+    requires { ⌜ Headed (now text) from version start × (length (now text) ≤ sizeLimit) × HexTable (now hex) ⌝ }
     ensures { λ j. ⌜ Judges 1 (now (text .entry)) version start j ⌝ }
 {
     let mut at = from;
@@ -220,7 +223,7 @@ fn judge(text: &[u8], from: usize, version: u64, start: u64) -> Judged
     while at < text.len() {
         place += 1;
         base = window_at(text, at, base, &mut w);
-        let next = row_at(text, at, version, rows + 1, base, &w, &mut fields);
+        let next = row_at(text, at, version, rows + 1, base, &w, hex, &mut fields);
         if next == 0 {
             let l = other_at(text, at);
             match l {
@@ -241,8 +244,8 @@ fn judge(text: &[u8], from: usize, version: u64, start: u64) -> Judged
 
 // The second pass: the records of the rows are packed into the output, which has room for them, and the first step back is found. No line is
 // refused any more: what starts with `;` is a comment, and all else a row.
-fn fill(text: &[u8], from: usize, version: u64, start: u64, out: &mut [u8]) -> u64
-    requires { ⌜ Headed (now text) from version start × RecordsFit 1 (now text) (now out) version start ⌝ }
+fn fill(text: &[u8], from: usize, version: u64, start: u64, hex: &[u8; 256], out: &mut [u8]) -> u64
+    requires { ⌜ Headed (now text) from version start × RecordsFit 1 (now text) (now out) version start × HexTable (now hex) ⌝ }
     ensures { λ b. ⌜ Filled 1 (now (text .entry)) (now (out .entry)) (now (out .exit)) b ⌝ }
 {
     let mut at = from;
@@ -268,7 +271,7 @@ fn fill(text: &[u8], from: usize, version: u64, start: u64, out: &mut [u8]) -> u
         } else {
             base = window_at(text, at, base, &mut w);
             done += 1;
-            let next = row_at(text, at, version, done, base, &w, &mut fields);
+            let next = row_at(text, at, version, done, base, &w, hex, &mut fields);
             if next == 0 {
                 return 0;
             }
@@ -287,7 +290,8 @@ fn body(text: &[u8], at: usize, version: u64, start: u64, out: &mut [u8]) -> Out
     requires { ⌜ Headed (now text) at version start × (length (now text) ≤ sizeLimit) ⌝ }
     ensures { λ r. ⌜ ReadPromise (now (text .entry)) (now (out .entry)) (readNumbers r) (now (out .exit)) ⌝ }
 {
-    let j = judge(text, at, version, start);
+    let hex = hex_table();
+    let j = judge(text, at, version, start, &hex);
     match j {
         Judged::Good { rows } => {
             if out.len() as u64 / 20 < rows {
@@ -296,7 +300,7 @@ fn body(text: &[u8], at: usize, version: u64, start: u64, out: &mut [u8]) -> Out
                     place: 0,
                 };
             }
-            let back = fill(text, at, version, start, out);
+            let back = fill(text, at, version, start, &hex, out);
             Outcome::Done {
                 version,
                 start,

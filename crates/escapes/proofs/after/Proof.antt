@@ -14,6 +14,7 @@ after-spec =
     (λ c s k. backslash-begun k (omega arith) (omega arith))
     (λ c s k. hex-begun k (omega arith) (omega arith))
     (λ c κs. search needs)
+    (λ c κs. c .before .hex-table .ensures)
     (λ c κs. search needs)
     (λ c. omega (arith, c .wide .ensures .1))
     (λ c. omega (arith, c .wide .ensures .1))

@@ -12,6 +12,7 @@ ended-spec =
     tie.close
     (tie.spec
     (λ c κs. search needs)
+    (λ c κs. c .before .hex-table .ensures)
     (λ c κs. search needs)
     (λ c. omega (arith, c .wide .ensures .1))
     (λ c. omega arith)

@@ -9,10 +9,10 @@ use Rattle.explain.proofs.explain_fields.Statement.{statement}
 use Rattle.explain.proofs.explain_fields.Tie as tie
 
 abbrev Inv-loop : tie.InvT-loop
-Inv-loop line from w₀ p₀ at₀ i₀ w p at i = Going line from p₀ p at i
+Inv-loop line from w₀ hex p₀ at₀ i₀ w p at i = Going line from p₀ p at i
 
 abbrev μ-loop : tie.MeasureT-loop
-μ-loop line from w₀ p₀ at₀ i₀ w p at i = length line - at
+μ-loop line from w₀ hex p₀ at₀ i₀ w p at i = length line - at
 
 pub explain-fields-spec : {M : Type 1} → statement M
 explain-fields-spec =
@@ -29,7 +29,7 @@ explain-fields-spec =
     (λ c. c .field-end .ensures .within)
     (λ c κs. let s = c .before .before .before .before .before .before .before in
     let h = c .before .before .field-end .ensures in
-    (lent (blanks-ran (c .before .before .before .before .run-end .ensures)) (c .before .before .before .if1 .left) h (s .pre .0), c .before .before .before .before .before .loop .inv .good))
+    (lent (blanks-ran (c .before .before .before .before .run-end .ensures)) (c .before .before .before .if1 .left) h (s .pre .0), c .before .before .before .before .before .loop .inv .good, s .pre .4))
     (λ c. let l = later (blanks-ran (c .before .before .before .before .before .before .before .run-end .ensures)) (c .before .before .before .before .before .before .if1 .left) (c .before .before .before .before .before .field-end .ensures) in omega (arith, c .before .before .before .before .before .before .before .before .loop .inv .few, c .before .before .before .before .before .before .before .run-end .ensures .from, c .before .before .before .before .before .field-end .ensures .within))
     (λ c. at-wrong (c .before .before .before .before .before .before .before .before .loop .inv) (c .before .before .before .before .before .before .before .run-end .ensures) (c .before .before .before .before .before .before .if1 .left) (c .before .before .before .before .before .field-end .ensures) (rw (part (c .before .before .before .before .before .field-end .ensures)) at (c .before .before .step .ensures)) (c .if3 .taken))
     (λ c. let l = later (blanks-ran (c .before .before .before .before .before .before .before .before .run-end .ensures)) (c .before .before .before .before .before .before .before .if1 .left) (c .before .before .before .before .before .before .field-end .ensures) in omega (arith, c .before .before .before .before .before .before .before .before .before .loop .inv .few, c .before .before .before .before .before .before .before .before .run-end .ensures .from, c .before .before .before .before .before .before .field-end .ensures .within))

@@ -33,14 +33,15 @@ explain-row-spec =
     let h = c .before .before .before .before .before .before .before .field-end .ensures in
     let m = rw (part h) at (c .before .before .first .ensures) in
     found-wrong g (c .before .before .before .before .before .before .before .before .if1 .left) h (fields-none (s .args .version) (s .args .number) (s .args .line .now)) (row-can-end (s .pre .1) (s .pre .2) (s .pre .3)) (none-goes-on m (c .if3 .taken)))
-    (λ c κs. let s = c .before .before .before .before .before .before .before .before .before .before .before .before .before in
-    let g = blanks-ran (c .before .before .before .before .before .before .before .before .before .before .before .run-end .ensures) in
-    let h = c .before .before .before .before .before .before .before .before .before .field-end .ensures in
-    let m = rw (part h) at (c .before .before .before .before .first .ensures) in
-    let l = later g (c .before .before .before .before .before .before .before .before .before .before .if1 .left) h in
-    (s .pre .0, omega arith, h .within, moved-good m (c .before .before .if3 .left)))
-    (λ c. let s = c .before .before .before .before .before .before .before .before .before .before .before .before .before .before in
-    let g = blanks-ran (c .before .before .before .before .before .before .before .before .before .before .before .before .run-end .ensures) in
-    let h = c .before .before .before .before .before .before .before .before .before .before .field-end .ensures in
-    let m = rw (part h) at (c .before .before .before .before .before .first .ensures) in
-    c .explain-fields .ensures (s .args .version) (s .args .number) (fields-next g (c .before .before .before .before .before .before .before .before .before .before .before .if1 .left) h (fields-none (s .args .version) (s .args .number) (s .args .line .now)) m (c .before .before .before .if3 .left))))
+    (λ c κs. search needs)
+    (λ c κs. let s = c .before .before .before .before .before .before .before .before .before .before .before .before .before .before .before in
+    let g = blanks-ran (c .before .before .before .before .before .before .before .before .before .before .before .before .before .run-end .ensures) in
+    let h = c .before .before .before .before .before .before .before .before .before .before .before .field-end .ensures in
+    let m = rw (part h) at (c .before .before .before .before .before .before .first .ensures) in
+    let l = later g (c .before .before .before .before .before .before .before .before .before .before .before .before .if1 .left) h in
+    (s .pre .0, omega arith, h .within, moved-good m (c .before .before .before .before .if3 .left), c .before .before .hex-table .ensures))
+    (λ c. let s = c .before .before .before .before .before .before .before .before .before .before .before .before .before .before .before .before in
+    let g = blanks-ran (c .before .before .before .before .before .before .before .before .before .before .before .before .before .before .run-end .ensures) in
+    let h = c .before .before .before .before .before .before .before .before .before .before .before .before .field-end .ensures in
+    let m = rw (part h) at (c .before .before .before .before .before .before .before .first .ensures) in
+    c .explain-fields .ensures (s .args .version) (s .args .number) (fields-next g (c .before .before .before .before .before .before .before .before .before .before .before .before .before .if1 .left) h (fields-none (s .args .version) (s .args .number) (s .args .line .now)) m (c .before .before .before .before .before .if3 .left))))

@@ -14,7 +14,7 @@ step-spec =
     tie.close
     (tie.spec
     (λ c κs. search needs)
-    (λ c κs. let s = c .before .before .before .before .before in (starts _ (s .pre .0) (c .before .window .ensures), s .pre .1))
+    (λ c κs. let s = c .before .before .before .before .before in (starts _ (s .pre .0) (c .before .window .ensures), s .pre .1, s .pre .2))
     (λ c. let s = c .before .before .before .before .before .before in moves _ (s .pre .0) (c .before .before .window .ensures) (c .take-field .ensures))
     (λ c κs. search needs)
     (λ c. let s = c .before .before .before .before in long-stuck (s .args .p) _ (omega arith) (no-word (c .before .run-end .ensures) (c .if2 .taken)) refl)
@@ -22,7 +22,7 @@ step-spec =
     (λ c κs. let f = c .before .before .before .before .before .before .args .f .now in let l : 16 ≤ length f = omega arith in rw (length-take-le 16 f l) (omega arith))
     (λ c κs. let s = c .before .before .before .before .before .before .before .before in
     let l : 16 ≤ length (s .args .f .now) = omega arith in
-    (starts _ (front-field l (s .pre .0)) (c .before .window2 .ensures), s .pre .1))
+    (starts _ (front-field l (s .pre .0)) (c .before .window2 .ensures), s .pre .1, s .pre .2))
     (λ c. let s = c .before .before .before .before .before .before .before .before .before in
     let l : 16 ≤ length (s .args .f .now) = omega arith in
     long-moves (s .args .p) _ l (word (c .before .before .before .before .before .before .run-end .ensures) (c .before .before .before .before .before .if2 .left))

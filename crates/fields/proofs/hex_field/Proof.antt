@@ -12,10 +12,10 @@ pub hex-field-spec : {M : Type 1} → statement M
 hex-field-spec =
     tie.close
     (tie.spec
-    (λ c κs. c .before .pre .lined)
+    (λ c κs. (c .before .pre .0 .lined, c .before .pre .1))
     (λ c κs. search needs)
     (λ c. not (c .none .ensures) (λ f rest a v p. let h = hex-shape (c .before .before .hexadecimal .ensures) a p in omega arith))
-    (λ c. let s = c .before .before .before in omega (arith, inside (s .args .w .now) (s .args .at) (s .pre .lined)))
+    (λ c. let s = c .before .before .before in omega (arith, inside (s .args .w .now) (s .args .at) (s .pre .0 .lined)))
     (λ c κs. search needs)
     (λ c. not (c .none2 .ensures) (λ f rest a v p. let h = hex-shape (c .before .before .before .hexadecimal .ensures) a p in omega arith))
     (λ c. inside _ _ (c .before .before .before .hexadecimal .ensures .lined))

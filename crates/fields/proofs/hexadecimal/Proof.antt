@@ -4,7 +4,7 @@ use native.Mathlib.Omega.{arith}
 use borrow.Author.Needs.{needs}
 use Rattle.digits.specs.Digits.{HexDigit}
 use Rattle.digits.proofs.Strings.{hex}
-use Rattle.base.proofs.Tests.{shown-not, refuted-not}
+use Rattle.digits.proofs.Readers.{is-digit, no-digit}
 use Rattle.fields.proofs.Scans.{hex-solid}
 use Rattle.fields.proofs.Window.{inside}
 use Rattle.fields.proofs.Digits.{Passed, none-passed, one-passed, room, stopped, all-passed}
@@ -12,27 +12,25 @@ use Rattle.fields.proofs.hexadecimal.Statement.{statement}
 use Rattle.fields.proofs.hexadecimal.Tie as tie
 
 abbrev Inv-loop : tie.InvT-loop
-Inv-loop w at bytes n₀ i₀ n i = Passed HexDigit 16 9 w at n i
+Inv-loop w at hex bytes n₀ i₀ n i = Passed HexDigit 16 9 w at n i
 
 abbrev μ-loop : tie.MeasureT-loop
-μ-loop w at bytes n₀ i₀ n i = at + 9 - i
+μ-loop w at hex bytes n₀ i₀ n i = at + 9 - i
 
 pub hexadecimal-spec : {M : Type 1} → statement M
 hexadecimal-spec =
     tie.close
     (tie.spec Inv-loop μ-loop
-    (λ c. none-passed (c .before .pre))
-    (λ c. omega (arith, inside (c .before .before .args .w .now) (c .before .before .args .at) (c .before .before .pre)))
+    (λ c. none-passed (c .before .pre .0))
+    (λ c. omega (arith, inside (c .before .before .args .w .now) (c .before .before .args .at) (c .before .before .pre .0)))
     (λ c. inside _ _ (c .before .before .loop .inv .lined))
+    (λ c κs. c .before .before .before .before .pre .1)
     (λ c κs. search needs)
-    (λ c. let x = c .before .is-hex in
-    stopped (c .before .before .before .before .loop .inv) (λ d p. refuted-not (x .result) (x .ensures) (c .if1 .taken) (d, p)))
-    (λ c. let r = room hex 8 (omega arith) (c .before .before .before .before .loop .inv) (omega arith) in omega arith)
-    (λ c. inside _ _ (c .before .before .before .before .before .loop .inv .lined))
-    (λ c κs. let x = c .before .before .is-hex in shown-not (x .result) (x .ensures) (c .before .if1 .left))
-    (λ c. let r = room hex 8 (omega arith) (c .before .before .before .before .before .before .loop .inv) (omega arith) in
-    omega (arith, hex .small (c .hex-value .ensures)))
-    (λ c. let l = c .before .before .before .before .before .before .loop in omega (arith, inside _ (l .i) (l .inv .lined)))
+    (λ c. stopped (c .before .before .before .before .before .loop .inv) (no-digit (c .before .before .hex-digit .ensures) (omega (arith, c .before .wide .ensures .0))))
+    (λ c. let r = room hex 8 (omega arith) (c .before .before .before .before .before .loop .inv) (omega arith) in omega arith)
+    (λ c. let r = room hex 8 (omega arith) (c .before .before .before .before .before .loop .inv) (omega arith) in omega arith)
+    (λ c. let l = c .before .before .before .before .before .loop in omega (arith, inside _ (l .i) (l .inv .lined)))
     (λ c. omega arith)
-    (λ c. one-passed hex-solid (c .before .before .before .before .before .before .loop .inv) (omega arith) (c .hex-value .ensures))
+    (λ c. one-passed hex-solid (c .before .before .before .before .before .loop .inv) (omega arith)
+    (rw (c .before .wide .ensures .0) (is-digit (c .before .before .hex-digit .ensures) (omega (arith, c .before .wide .ensures .0)))))
     (λ c. all-passed (c .before .loop .inv) (omega arith)))

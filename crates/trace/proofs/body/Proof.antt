@@ -13,15 +13,16 @@ body-spec =
     tie.close
     (tie.spec
     (λ c κs. search needs)
+    (λ c κs. let s = c .before .before .before .before in (s .pre .0, s .pre .1, c .before .hex-table .ensures))
     (λ c. search needs)
     (λ c. let g = rw (c .before .before .j .given .1) at (c .before .before .before .before .judge .ensures) in
-    no-room (c .before .before .before .before .before .before .before .pre .1) (g .1) (omega (arith, g .2, c .if1 .taken)) refl refl)
-    (λ c κs. let g = rw (c .before .before .before .j .given .1) at (c .before .before .before .before .before .judge .ensures) in
-    (c .before .before .before .before .before .before .before .before .pre .0, record { records = g .0; spelled = g .1; room = omega (arith, g .2, c .before .if1 .left) }))
+    no-room (c .before .before .before .before .before .before .before .before .before .pre .1) (g .1) (omega (arith, g .2, c .if1 .taken)) refl refl)
+    (λ c κs. let g = rw (c .before .before .before .before .j .given .1) at (c .before .before .before .before .before .before .judge .ensures) in
+    (c .before .before .before .before .before .before .before .before .before .before .before .pre .0, record { records = g .0; spelled = g .1; room = omega (arith, g .2, c .before .before .if1 .left) }, c .before .before .before .before .before .before .before .before .hex-table .ensures))
     (λ c. search needs)
     (λ c. search needs)
-    (λ c. let a = c .before .before .before .before .before .before .before .before .before .before .before .args in
-    let g = rw (c .before .before .before .before .before .before .j .given .1) at (c .before .before .before .before .before .before .before .before .judge .ensures) in
-    done (c .before .before .before .before .before .before .before .before .before .before .before .pre .1) (g .1) (omega (arith, g .2, c .before .before .before .before .if1 .left))
+    (λ c. let a = c .before .before .before .before .before .before .before .before .before .before .before .before .before .before .args in
+    let g = rw (c .before .before .before .before .before .before .before .j .given .1) at (c .before .before .before .before .before .before .before .before .before .judge .ensures) in
+    done (c .before .before .before .before .before .before .before .before .before .before .before .before .before .before .pre .1) (g .1) (omega (arith, g .2, c .before .before .before .before .before .if1 .left))
     (ap₂ (λ (n b : ℕ). 0 ∷ 0 ∷ a .version ∷ a .start ∷ n ∷ b ∷ []) (g .2) (c .before .before .fill .ensures .back _ (g .1))) (c .before .before .fill .ensures .bytes _ (g .1)))
-    (λ c. let g = rw (c .before .j2 .given .1) at (c .before .before .before .judge .ensures) in refused (c .before .before .before .before .before .before .pre .1) g refl refl))
+    (λ c. let g = rw (c .before .j2 .given .1) at (c .before .before .before .judge .ensures) in refused (c .before .before .before .before .before .before .before .before .pre .1) g refl refl))

@@ -10,11 +10,11 @@ use Rattle.trace.proofs.judge.Statement.{statement}
 use Rattle.trace.proofs.judge.Tie as tie
 
 abbrev Inv-loop : tie.InvT-loop
-Inv-loop text from version start at₀ place₀ rows₀ w₀ base₀ fields₀ at place rows w base fields =
+Inv-loop text from version start hex at₀ place₀ rows₀ w₀ base₀ fields₀ at place rows w base fields =
     Judging 1 text version start at place rows × Windowed text base w × (base ≤ at)
 
 abbrev μ-loop : tie.MeasureT-loop
-μ-loop text from version start at₀ place₀ rows₀ w₀ base₀ fields₀ at place rows w base fields = length text - at
+μ-loop text from version start hex at₀ place₀ rows₀ w₀ base₀ fields₀ at place rows w base fields = length text - at
 
 pub judge-spec : {M : Type 1} → statement M
 judge-spec =
@@ -27,7 +27,7 @@ judge-spec =
     (λ c. let j = c .before .loop .inv .0 .near in omega arith)
     (λ c κs. (c .before .before .loop .inv .1, c .before .before .loop .inv .2, c .before .before .loop .inv .0 .within))
     (λ c. let j = c .before .before .before .loop .inv .0 .few in omega arith)
-    (λ c κs. (c .before .before .window-at .ensures, c .before .before .before .before .before .loop .inv .0 .within))
+    (λ c κs. (c .before .before .window-at .ensures, c .before .before .before .before .before .loop .inv .0 .within, c .before .before .before .before .before .before .before .before .before .before .before .pre .2))
     (λ c κs. c .before .before .before .before .before .before .before .loop .inv .0 .within)
     (λ c. search needs)
     (λ c. let s = rw (c .before .l .given .1) at (c .before .before .before .other-at .ensures) in let a = s .1 .later in let b = s .1 .within in omega arith)

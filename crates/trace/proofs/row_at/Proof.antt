@@ -9,7 +9,7 @@ row-at-spec =
     tie.close
     (tie.spec
     (λ c. omega (arith, c .before .pre .0 .starts))
-    (λ c κs. lined (c .before .before .pre .0) (c .before .before .pre .1))
+    (λ c κs. (lined (c .before .before .pre .0) (c .before .before .pre .1), c .before .before .pre .2))
     (λ c. no-row-here (c .before .before .before .before .pre .0) (c .before .before .before .before .pre .1) (c .before .row-in .ensures) (λ z h m f. absurd (z (c .if1 .taken))))
     (λ c. omega (arith, feed-near (c .before .before .before .before .pre .0) (c .before .before .before .before .pre .1) (c .before .row-in .ensures)))
     (λ c. omega (arith, c .before .before .before .before .pre .1))

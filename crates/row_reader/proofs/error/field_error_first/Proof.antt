@@ -15,5 +15,5 @@ field-error-first-spec =
     (λ c. let s = c .before .before in stop _ (first-off (s .pre .1) (c .before .byte-field .ensures) (c .if1 .taken)) refl (s .pre .0))
     (λ c. let s = c .before .before .before .before in stop _ (first-none (s .pre .1) (c .before .before .before .byte-field .ensures) (c .before .before .if1 .left) (c .if2 .taken)) refl (s .pre .0))
     (λ c. omega (arith, c .before .if2 .left))
-    (λ c κs. let s = c .before .before .before .before .before .before in next (first-on (s .pre .1) (c .before .before .before .before .before .byte-field .ensures) (c .before .before .before .before .if1 .left) (c .before .before .if2 .left)) (c .before .before .before .before .if1 .left) (s .pre .0))
+    (λ c κs. let s = c .before .before .before .before .before .before in next (first-on (s .pre .1) (c .before .before .before .before .before .byte-field .ensures) (c .before .before .before .before .if1 .left) (c .before .before .if2 .left)) (c .before .before .before .before .if1 .left) (s .pre .0) (s .pre .2))
     (λ c. let s = c .before .before .before .before .before .before .before in link (first-on (s .pre .1) (c .before .before .before .before .before .before .byte-field .ensures) (c .before .before .before .before .before .if1 .left) (c .before .before .before .if2 .left)) (c .before .before .before .before .before .if1 .left) (c .gap-error-second .ensures)))

@@ -21,5 +21,5 @@ field-error-id-spec =
     (λ c. let s = c .before .before .before .before .before in stop _ (error-id-none (s .pre .1) (c .before .before .before .before .hex-field .ensures) (c .before .before .before .if1 .left) (λ e. refuted-not (c .before .error-id .result) (c .before .error-id .ensures) (c .if3 .taken))) refl (s .pre .0))
     (λ c κs. search needs)
     (λ c κs. search needs)
-    (λ c κs. let s = c .before .before .before .before .before .before .before .before .before .before in next (error-id-on (s .pre .1) (c .before .before .before .before .before .before .before .before .before .hex-field .ensures) (c .before .before .before .before .before .before .before .before .if1 .left) (c .before .before .before .before .before .before .before .if2 .left) (shown-not (c .before .before .before .before .before .before .error-id .result) (c .before .before .before .before .before .before .error-id .ensures) (c .before .before .before .before .before .if3 .left)) (c .before .before .before .put .ensures) (c .before .put2 .ensures)) (c .before .before .before .before .before .before .before .before .if1 .left) (s .pre .0))
+    (λ c κs. let s = c .before .before .before .before .before .before .before .before .before .before in next (error-id-on (s .pre .1) (c .before .before .before .before .before .before .before .before .before .hex-field .ensures) (c .before .before .before .before .before .before .before .before .if1 .left) (c .before .before .before .before .before .before .before .if2 .left) (shown-not (c .before .before .before .before .before .before .error-id .result) (c .before .before .before .before .before .before .error-id .ensures) (c .before .before .before .before .before .if3 .left)) (c .before .before .before .put .ensures) (c .before .put2 .ensures)) (c .before .before .before .before .before .before .before .before .if1 .left) (s .pre .0) (s .pre .2))
     (λ c. let s = c .before .before .before .before .before .before .before .before .before .before .before in link (error-id-on (s .pre .1) (c .before .before .before .before .before .before .before .before .before .before .hex-field .ensures) (c .before .before .before .before .before .before .before .before .before .if1 .left) (c .before .before .before .before .before .before .before .before .if2 .left) (shown-not (c .before .before .before .before .before .before .before .error-id .result) (c .before .before .before .before .before .before .before .error-id .ensures) (c .before .before .before .before .before .before .if3 .left)) (c .before .before .before .before .put .ensures) (c .before .before .put2 .ensures)) (c .before .before .before .before .before .before .before .before .before .if1 .left) (c .gap-error-length .ensures)))

@@ -15,5 +15,5 @@ field-error-length-spec =
     (λ c. let s = c .before .before .before .before in stop _ (error-length-none (s .pre .1) (c .before .before .before .length-field .ensures) (c .before .before .if1 .left) (c .if2 .taken)) refl (s .pre .0))
     (λ c κs. search needs)
     (λ c κs. search needs)
-    (λ c κs. let s = c .before .before .before .before .before .before .before .before .before in next (error-length-on (s .pre .1) (c .before .before .before .before .before .before .before .before .length-field .ensures) (c .before .before .before .before .before .before .before .if1 .left) (c .before .before .before .before .before .if2 .left) (c .before .before .before .put .ensures) (c .before .put2 .ensures)) (c .before .before .before .before .before .before .before .if1 .left) (s .pre .0))
+    (λ c κs. let s = c .before .before .before .before .before .before .before .before .before in next (error-length-on (s .pre .1) (c .before .before .before .before .before .before .before .before .length-field .ensures) (c .before .before .before .before .before .before .before .if1 .left) (c .before .before .before .before .before .if2 .left) (c .before .before .before .put .ensures) (c .before .put2 .ensures)) (c .before .before .before .before .before .before .before .if1 .left) (s .pre .0) (s .pre .2))
     (λ c. let s = c .before .before .before .before .before .before .before .before .before .before in link (error-length-on (s .pre .1) (c .before .before .before .before .before .before .before .before .before .length-field .ensures) (c .before .before .before .before .before .before .before .before .if1 .left) (c .before .before .before .before .before .before .if2 .left) (c .before .before .before .before .put .ensures) (c .before .before .put2 .ensures)) (c .before .before .before .before .before .before .before .before .if1 .left) (c .gap-error-first .ensures)))

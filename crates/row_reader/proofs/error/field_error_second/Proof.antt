@@ -20,5 +20,5 @@ field-error-second-spec =
     (λ c. let s = c .before .before .before .before in stop _ (second-none (s .pre .1) (c .before .before .before .byte-field .ensures) (c .before .before .if1 .left) (refuted-not (c .before .position .result) (c .before .position .ensures) (c .if2 .taken))) refl (s .pre .0))
     (λ c. let b = hex-below (got (c .before .before .before .before .byte-field .ensures) (c .before .before .before .if1 .left) .has) in omega arith)
     (λ c. let b = hex-below (got (c .before .before .before .before .byte-field .ensures) (c .before .before .before .if1 .left) .has) in omega (arith, c .before .before .before .before .before .pre .1 .good))
-    (λ c κs. let s = c .before .before .before .before .before .before in next (second-on (s .pre .1) (c .before .before .before .before .before .byte-field .ensures) (c .before .before .before .before .if1 .left) (shown-not (c .before .before .before .position .result) (c .before .before .before .position .ensures) (c .before .before .if2 .left))) (c .before .before .before .before .if1 .left) (s .pre .0))
+    (λ c κs. let s = c .before .before .before .before .before .before in next (second-on (s .pre .1) (c .before .before .before .before .before .byte-field .ensures) (c .before .before .before .before .if1 .left) (shown-not (c .before .before .before .position .result) (c .before .before .before .position .ensures) (c .before .before .if2 .left))) (c .before .before .before .before .if1 .left) (s .pre .0) (s .pre .2))
     (λ c. let s = c .before .before .before .before .before .before .before in link (second-on (s .pre .1) (c .before .before .before .before .before .before .byte-field .ensures) (c .before .before .before .before .before .if1 .left) (shown-not (c .before .before .before .before .position .result) (c .before .before .before .before .position .ensures) (c .before .before .before .if2 .left))) (c .before .before .before .before .before .if1 .left) (c .gap-byte .ensures)))

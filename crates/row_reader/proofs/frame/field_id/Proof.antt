@@ -19,5 +19,5 @@ field-id-spec =
     (λ c. let s = c .before .before .before .before in stop _ (id-none (s .pre .1) (c .before .before .before .hex-field .ensures) (c .before .before .if1 .left) (c .before .form .ensures) (c .if2 .taken)) refl (s .pre .0))
     (λ c κs. search needs)
     (λ c κs. search needs)
-    (λ c κs. let s = c .before .before .before .before .before .before .before .before .before in next (id-on (s .pre .1) (c .before .before .before .before .before .before .before .before .hex-field .ensures) (c .before .before .before .before .before .before .before .if1 .left) (c .before .before .before .before .before .before .form .ensures) (c .before .before .before .before .before .if2 .left) (c .before .before .before .put .ensures) (c .before .put2 .ensures)) (c .before .before .before .before .before .before .before .if1 .left) (s .pre .0))
+    (λ c κs. let s = c .before .before .before .before .before .before .before .before .before in next (id-on (s .pre .1) (c .before .before .before .before .before .before .before .before .hex-field .ensures) (c .before .before .before .before .before .before .before .if1 .left) (c .before .before .before .before .before .before .form .ensures) (c .before .before .before .before .before .if2 .left) (c .before .before .before .put .ensures) (c .before .put2 .ensures)) (c .before .before .before .before .before .before .before .if1 .left) (s .pre .0) (s .pre .2))
     (λ c. let s = c .before .before .before .before .before .before .before .before .before .before in link (id-on (s .pre .1) (c .before .before .before .before .before .before .before .before .before .hex-field .ensures) (c .before .before .before .before .before .before .before .before .if1 .left) (c .before .before .before .before .before .before .before .form .ensures) (c .before .before .before .before .before .before .if2 .left) (c .before .before .before .before .put .ensures) (c .before .before .put2 .ensures)) (c .before .before .before .before .before .before .before .before .if1 .left) (c .gap-length .ensures)))

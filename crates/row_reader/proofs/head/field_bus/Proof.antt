@@ -13,5 +13,5 @@ field-bus-spec =
     (λ c κs. search needs)
     (λ c. let s = c .before .before in stop _ (bus-off (s .pre .1) (c .before .bus-field .ensures) (c .if1 .taken)) refl (s .pre .0))
     (λ c κs. search needs)
-    (λ c κs. let s = c .before .before .before .before .before in next (bus-on (s .pre .1) (c .before .before .before .before .bus-field .ensures) (c .before .before .before .if1 .left) (c .before .put .ensures)) (c .before .before .before .if1 .left) (s .pre .0))
+    (λ c κs. let s = c .before .before .before .before .before in next (bus-on (s .pre .1) (c .before .before .before .before .bus-field .ensures) (c .before .before .before .if1 .left) (c .before .put .ensures)) (c .before .before .before .if1 .left) (s .pre .0) (s .pre .2))
     (λ c. let s = c .before .before .before .before .before .before in link (bus-on (s .pre .1) (c .before .before .before .before .before .bus-field .ensures) (c .before .before .before .before .if1 .left) (c .before .before .put .ensures)) (c .before .before .before .before .if1 .left) (c .gap-type .ensures)))

@@ -11,5 +11,5 @@ gap-number-spec =
     (λ c κs. search needs)
     (λ c κs. search needs)
     (λ c. gap-empty (c .before .before .skip-in .ensures .0) (c .before .at-end .ensures) (c .if1 .taken))
-    (λ c κs. gap-starts-at (c .before .before .before .skip-in .ensures .0) (c .before .before .at-end .ensures) (c .before .if1 .left))
+    (λ c κs. (gap-starts-at (c .before .before .before .skip-in .ensures .0) (c .before .before .at-end .ensures) (c .before .if1 .left), c .before .before .before .before .pre .1))
     (λ c. gap-on (c .before .before .before .before .skip-in .ensures .0) (c .field-number .ensures)))

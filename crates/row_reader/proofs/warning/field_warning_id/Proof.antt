@@ -18,5 +18,5 @@ field-warning-id-spec =
     (λ c. let s = c .before .before .before in stop _ (warning-id-none (s .pre .1) (c .before .before .hex-field .ensures) (c .before .if1 .left) (λ e v. c .if2 .taken e)) refl (s .pre .0))
     (λ c. let s = c .before .before .before .before .before in stop _ (warning-id-none (s .pre .1) (c .before .before .before .before .hex-field .ensures) (c .before .before .before .if1 .left) (λ e v. c .if3 .taken v)) refl (s .pre .0))
     (λ c κs. search needs)
-    (λ c κs. let s = c .before .before .before .before .before .before .before .before in next (warning-id-on (s .pre .1) (c .before .before .before .before .before .before .before .hex-field .ensures) (c .before .before .before .before .before .before .if1 .left) (c .before .before .before .before .before .if2 .left) (c .before .before .before .if3 .left) (c .before .put-warning .ensures)) (c .before .before .before .before .before .before .if1 .left) (s .pre .0))
+    (λ c κs. let s = c .before .before .before .before .before .before .before .before in next (warning-id-on (s .pre .1) (c .before .before .before .before .before .before .before .hex-field .ensures) (c .before .before .before .before .before .before .if1 .left) (c .before .before .before .before .before .if2 .left) (c .before .before .before .if3 .left) (c .before .put-warning .ensures)) (c .before .before .before .before .before .before .if1 .left) (s .pre .0) (s .pre .2))
     (λ c. let s = c .before .before .before .before .before .before .before .before .before in link (warning-id-on (s .pre .1) (c .before .before .before .before .before .before .before .before .hex-field .ensures) (c .before .before .before .before .before .before .before .if1 .left) (c .before .before .before .before .before .before .if2 .left) (c .before .before .before .before .if3 .left) (c .before .before .put-warning .ensures)) (c .before .before .before .before .before .before .before .if1 .left) (c .gap-warning-length .ensures)))

@@ -10,5 +10,5 @@ bytes-spec =
     (tie.spec
     (λ c κs. search needs)
     (λ c. bytes-barred (c .before .before .before .args .p) _ (c .before .if1 .taken) (c .wrong .ensures))
-    (λ c κs. let s = c .before .before in (s .pre .0, c .if1 .left, s .pre .1))
+    (λ c κs. let s = c .before .before in (s .pre .0, c .if1 .left, s .pre .1, s .pre .2))
     (λ c. let s = c .before .before .before in bytes-went (s .args .p) _ (c .before .if1 .left) (s .pre .1) (c .byte .ensures)))

@@ -19,6 +19,6 @@ data-spec =
     (λ c κs. search needs)
     (λ c. let s = c .before .before .before .before .before in
     data-barred (s .args .p) (s .pre .1) _ (c .before .before .before .remote-field .ensures) (c .before .before .if1 .left) (c .before .if2 .taken) (c .wrong .ensures))
-    (λ c κs. let s = c .before .before .before .before in (s .pre .0, c .if2 .left, omega arith))
+    (λ c κs. let s = c .before .before .before .before in (s .pre .0, c .if2 .left, omega arith, s .pre .2))
     (λ c. let s = c .before .before .before .before .before in
     data-went (s .args .p) (s .pre .1) _ (c .before .before .before .remote-field .ensures) (c .before .before .if1 .left) (c .before .if2 .left) (c .byte .ensures)))

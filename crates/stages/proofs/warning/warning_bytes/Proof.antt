@@ -9,7 +9,7 @@ pub warning-bytes-spec : {M : Type 1} → statement M
 warning-bytes-spec =
     tie.close
     (tie.spec
-    (λ c κs. let s = c .before .before in (s .pre .0, c .if1 .taken, s .pre .1))
+    (λ c κs. let s = c .before .before in (s .pre .0, c .if1 .taken, s .pre .1, s .pre .2))
     (λ c. let s = c .before .before .before in warning-bytes-went (s .args .p) _ (c .before .if1 .taken) (s .pre .1) (c .byte .ensures))
     (λ c κs. search needs)
     (λ c κs. search needs)
