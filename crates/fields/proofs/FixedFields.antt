@@ -159,16 +159,29 @@ type-one p q e =
     let h = sym (type-value p) ∙ ap typeValue e ∙ type-value q in
     (type-text p ∙ ap typeText h ∙ sym (type-text q), h)
 
-pub no-type : {b v : ℕ} {f : List ℕ} → ((b ≡ 82) ⊎ (b ≡ 84) → ⊥) → b ≢ 87 → b ≢ 69 → b ≡ head f → TypeField v f → ⊥
-no-type i k l e (rx p) = i (inl (e ∙ ap head p))
-no-type i k l e (tx p) = i (inr (e ∙ ap head p))
-no-type i k l e (warng p) = k (e ∙ ap head p)
-no-type i k l e (error p) = l (e ∙ ap head p)
+-- The second byte tells the short types from the long ones, and the first byte then which it is.
+pub no-short : {b c v : ℕ} {f : List ℕ} → b ≡ head f → (1 < length f → c ≡ getD f 1 0) → c ≡ 120 → ((b ≡ 82) ⊎ (b ≡ 84) → ⊥) → TypeField v f → ⊥
+no-short e s x i (rx p) = i (inl (e ∙ ap head p))
+no-short e s x i (tx p) = i (inr (e ∙ ap head p))
+no-short e s x i (warng p) = omega (arith, s (omega (arith, ap length p)) ∙ ap (λ (l : List ℕ). getD l 1 0) p)
+no-short e s x i (error p) = omega (arith, s (omega (arith, ap length p)) ∙ ap (λ (l : List ℕ). getD l 1 0) p)
+
+pub no-long : {b c v : ℕ} {f : List ℕ} → b ≡ head f → (1 < length f → c ≡ getD f 1 0) → c ≢ 120 → ((b ≡ 69) ⊎ (b ≡ 87) → ⊥) → TypeField v f → ⊥
+no-long e s x i (rx p) = x (s (omega (arith, ap length p)) ∙ ap (λ (l : List ℕ). getD l 1 0) p)
+no-long e s x i (tx p) = x (s (omega (arith, ap length p)) ∙ ap (λ (l : List ℕ). getD l 1 0) p)
+no-long e s x i (warng p) = i (inr (e ∙ ap head p))
+no-long e s x i (error p) = i (inl (e ∙ ap head p))
 
 -- The two types that go on with `x` are told by one number.
 pub short : {b v : ℕ} → (b ≡ 82 → v ≡ 0) → (b ≡ 84 → v ≡ 1) → (b ≡ 82) ⊎ (b ≡ 84) → TypeField v (b ∷ 120 ∷ [])
 short f g (inl e) = rw (f e) (rx (ap (λ (x : ℕ). x ∷ 120 ∷ []) e))
 short f g (inr e) = rw (g e) (tx (ap (λ (x : ℕ). x ∷ 120 ∷ []) e))
+
+-- So are the two that do not.
+pub long : {b v : ℕ} (e : ℕ) → v ≡ 2 + e → (b ≡ 69 → e ≡ 1) → (b ≡ 87 → e ≡ 0) → (b ≡ 69) ⊎ (b ≡ 87)
+    → TypeField v (b ∷ (97 + 17 * e) ∷ 114 ∷ (110 + e) ∷ (103 + 11 * e) ∷ [])
+long e z f g (inl p) = rw (z, f p) (error (ap (λ (x : ℕ). x ∷ 114 ∷ 114 ∷ 111 ∷ 114 ∷ []) p))
+long e z f g (inr p) = rw (z, g p) (warng (ap (λ (x : ℕ). x ∷ 97 ∷ 114 ∷ 110 ∷ 103 ∷ []) p))
 
 -- The reader of the one type that starts with this byte reads types.
 pub type-takes : {w u : List ℕ} {at k : ℕ} {s : Scan} → Starts w at → TypeField k (getD w at 0 ∷ u)

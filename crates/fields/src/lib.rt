@@ -38,7 +38,7 @@ pub fn ends(b: u8) -> bool
     b == b'\r'
 }
 
-// The place behind the blanks. Most gaps are one blank: they are passed before the loop.
+// The place behind the blanks. Most gaps are one blank with a field behind it: they are passed before the loop, by a test that tells CR from a field, too.
 pub fn skip_in(w: &[u8; WINDOW], at: usize) -> usize
     requires { ⌜ Lined (drop at (now w)) ⌝ }
     ensures { λ a. ⌜ Skipped (now (w .entry)) at a ⌝ }
@@ -57,10 +57,9 @@ fn skip(s: &[u8], at: usize) -> usize
         return at;
     }
     let mut a = at + 1;
-    if s[a] != b' ' {
+    if b' ' < s[a] {
         return a;
     }
-    a += 1;
     while s[a] == b' ' {
         a += 1;
     }
@@ -76,11 +75,11 @@ pub fn at_end(w: &[u8; WINDOW], a: usize) -> bool
     bytes[a] == b'\r'
 }
 
-// No such field.
+// No such field. The value is no matter, but two zeros would be a call that clears memory, and readers with many of those are not put into the row reader.
 fn none() -> Scan
     ensures { λ s. ⌜ s .end ≡ 0 ⌝ }
 {
-    Scan { end: 0, value: 0 }
+    Scan { end: 0, value: 1 }
 }
 
 // The decimal digits from a place on, at most twelve: `0` is 48 and `9` is 57.
@@ -261,17 +260,33 @@ fn long_type(w: &[u8; WINDOW], at: usize, a: u8, b: u8, c: u8, d: u8, value: u64
     Scan { end: at + 5, value }
 }
 
-// `Rx`, `Tx`, `Warng` or `Error`. No branch tells `Rx` from `Tx`: a trace mixes the two.
+// `Rx`, `Tx`, `Warng` or `Error`. No branch tells `Rx` from `Tx`: a trace mixes the two. The second byte parts the short types from the long ones, and `Error`
+// from `Warng` is told by a number, 1 or 0, so that one place reads both: a larger function would not be put into the row reader.
 pub fn type_field(w: &[u8; WINDOW], at: usize) -> Scan
     requires { ⌜ Starts (now w) at ⌝ }
     ensures { λ s. ⌜ Takes TypeField (now (w .entry)) at s ⌝ }
 {
     let bytes: &[u8] = w;
     let m = bytes[at];
+    if bytes[at + 1] == b'x' {
+        return match m {
+            b'R' | b'T' => short_type(w, at, wide((m - b'R') / 2)),
+            _ => none(),
+        };
+    }
     match m {
-        b'R' | b'T' => short_type(w, at, wide((m - b'R') / 2)),
-        b'W' => long_type(w, at, b'a', b'r', b'n', b'g', 2),
-        b'E' => long_type(w, at, b'r', b'r', b'o', b'r', 3),
+        b'E' | b'W' => {
+            let error = (b'W' - m) / 18;
+            long_type(
+                w,
+                at,
+                b'a' + 17 * error,
+                b'r',
+                b'n' + error,
+                b'g' + 11 * error,
+                2 + wide(error),
+            )
+        }
         _ => none(),
     }
 }

@@ -28,9 +28,8 @@ skip-spec =
     (λ c.
     let a = c .before .before .before .before .args in
     let b = second (c .before .before) in
-    (skipped b (c .if2 .taken), omega (arith, inside (a .s .now) (a .at + 1) (b .lined))))
-    (λ c. let a = c .before .before .before .before in omega (arith, inside (a .args .s .now) (a .args .at) (a .pre)))
-    (λ c. one-blank (second (c .before .before)) (c .if2 .left))
+    (skipped b (λ e. omega (arith, c .if2 .taken)), omega (arith, inside (a .s .now) (a .at + 1) (b .lined))))
+    (λ c. second (c .before .before))
     (λ c. inside _ _ (c .before .loop .inv .lined))
     (λ c. let l = c .before .before .loop in omega (arith, inside (c .before .before .before .before .before .before .before .args .s .now) (l .a) (l .inv .lined)))
     (λ c. let l = c .before .before .loop in omega (arith, inside (c .before .before .before .before .before .before .before .args .s .now) (l .a) (l .inv .lined)))
