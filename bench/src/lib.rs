@@ -1,5 +1,6 @@
 //! The library against an independent implementation.
 
+pub mod before;
 pub mod boundary;
 pub mod compare;
 pub mod cpu_time;

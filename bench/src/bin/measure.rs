@@ -1,12 +1,14 @@
-//! Measures the library and the expert, and prints a table: `measure [ROWS...]`.
+//! Measures the library and the expert, and prints a table: `measure [ROWS...]`. An earlier library is measured beside them if there is one.
 
 use bushingowl::{numbers, MOST_HEADER, MOST_LINE, MOST_ROW};
+use bushingowl_bench::before::Before;
 use bushingowl_bench::cpu_time::cpu_time;
 use bushingowl_bench::expert;
 use bushingowl_bench::inputs::random::Random;
 use bushingowl_bench::inputs::realistic::{in_columns, realistic};
 use bushingowl_bench::inputs::records::packed_all;
 use std::hint::black_box;
+use std::iter::zip;
 use std::process::ExitCode;
 use std::time::{Duration, Instant};
 
@@ -35,11 +37,18 @@ fn main() -> ExitCode {
     if sizes.is_empty() {
         sizes.extend(ROWS);
     }
-    println!("| Rows | Version | Operation | Library MB/s | Expert MB/s | Library ns/row | Expert ns/row | Library/expert |");
-    println!("|---:|---|---|---:|---:|---:|---:|---:|");
+    let before = match Before::named() {
+        Ok(before) => before,
+        Err(reason) => {
+            eprintln!("measure: the library before can't be used: {reason}");
+            return ExitCode::from(2);
+        }
+    };
+    print_head(before.is_some());
+    let sides = sides(before);
     for rows in sizes {
         for version in [11, 12] {
-            measure_all(rows, version);
+            measure_all(&sides, rows, version);
         }
     }
     ExitCode::SUCCESS
@@ -53,73 +62,158 @@ fn rows(word: String) -> Result<usize, String> {
     }
 }
 
-fn measure_all(rows: usize, version: u32) {
+fn print_head(with_before: bool) {
+    let (before, right) = match with_before {
+        true => (" Before ns/row |", "---:|"),
+        false => ("", ""),
+    };
+    println!("| Rows | Version | Operation | Library MB/s | Expert MB/s | Library ns/row |{before} Expert ns/row | Library/expert |");
+    println!("|---:|---|---|---:|---:|---:|{right}---:|---:|");
+}
+
+/// What is measured.
+enum Side {
+    Library,
+    Before(Before),
+    Expert,
+}
+
+/// The sides in the order of their turns: the library first, the expert last.
+fn sides(before: Option<Before>) -> Vec<Side> {
+    let mut sides = vec![Side::Library];
+    sides.extend(before.map(Side::Before));
+    sides.push(Side::Expert);
+    sides
+}
+
+impl Side {
+    fn name(&self) -> &'static str {
+        match self {
+            Side::Library => "library",
+            Side::Before(_) => "library before",
+            Side::Expert => "expert",
+        }
+    }
+
+    fn read(&self, text: &[u8], out: &mut [u8]) -> [u64; 6] {
+        match self {
+            Side::Library => numbers::read(text, out),
+            Side::Before(before) => before.read(text, out),
+            Side::Expert => expert::read(text, out),
+        }
+    }
+
+    fn write(&self, version: u32, start: u64, records: &[u8], out: &mut [u8]) -> [u64; 3] {
+        match self {
+            Side::Library => numbers::write(version, start, records, out),
+            Side::Before(before) => before.write(version, start, records, out),
+            Side::Expert => expert::write(version, start, records, out),
+        }
+    }
+
+    fn export(&self, start: u64, records: &[u8], out: &mut [u8]) -> [u64; 5] {
+        match self {
+            Side::Library => numbers::export(start, records, out),
+            Side::Before(before) => before.export(start, records, out),
+            Side::Expert => expert::export(start, records, out),
+        }
+    }
+}
+
+fn measure_all(sides: &[Side], rows: usize, version: u32) {
     let mut random = Random::new(rows as u64);
     let records = packed_all(&realistic(&mut random, u64::from(version), rows));
     let mut text = vec![0; MOST_HEADER + rows * MOST_ROW];
     let [.., len] = expert::write(version, START, &records, &mut text);
     text.truncate(len as usize);
-    let case = Case { rows, version };
+    let case = Case {
+        sides,
+        rows,
+        version,
+    };
     for (name, text) in [("read", &text), ("read columns", &in_columns(&text))] {
         case.measure(
             name,
             records.len(),
-            |out| numbers::read(black_box(text), out),
-            |out| expert::read(black_box(text), out),
+            |side, out| side.read(black_box(text), out),
             |_| text.len(),
         );
     }
     case.measure(
         "write",
         text.len(),
-        |out| numbers::write(version, START, black_box(&records), out),
-        |out| expert::write(version, START, black_box(&records), out),
+        |side, out| side.write(version, START, black_box(&records), out),
         |answer| answer[2] as usize,
     );
     case.measure(
         "export",
         rows * MOST_LINE,
-        |out| numbers::export(START, black_box(&records), out),
-        |out| expert::export(START, black_box(&records), out),
+        |side, out| side.export(START, black_box(&records), out),
         |answer| answer[2] as usize,
     );
 }
 
-struct Case {
+struct Case<'a> {
+    sides: &'a [Side],
     rows: usize,
     version: u32,
 }
 
-impl Case {
-    /// Makes sure that both do the same, times them by turns, and prints the best of each.
+impl Case<'_> {
+    /// Makes sure that all sides do the same, times them by turns, and prints the best of each.
     fn measure<const N: usize>(
         &self,
         name: &str,
         room: usize,
-        library: impl Fn(&mut [u8]) -> [u64; N],
-        expert: impl Fn(&mut [u8]) -> [u64; N],
+        call: impl Fn(&Side, &mut [u8]) -> [u64; N],
         bytes: impl Fn(&[u64; N]) -> usize,
     ) {
-        let (mut ours, mut theirs) = (vec![0; room], vec![0; room]);
-        let answer = library(&mut ours);
-        assert_eq!(answer[0], 0, "refused");
-        assert_eq!(answer, expert(&mut theirs), "the answers differ");
-        assert!(ours == theirs, "the outputs differ");
+        let mut outs: Vec<_> = self.sides.iter().map(|_| vec![0; room]).collect();
+        let answer = self.same_answer(&mut outs, &call);
         let (begin, mut turns) = (Instant::now(), 0);
-        let mut best = [Duration::MAX; 2];
+        let mut best = vec![Duration::MAX; self.sides.len()];
         while turns < OFTEN_ENOUGH || begin.elapsed() < LONG_ENOUGH {
-            best[0] = best[0].min(time(|| library(black_box(&mut ours))));
-            best[1] = best[1].min(time(|| expert(black_box(&mut theirs))));
+            for ((side, out), best) in zip(zip(self.sides, &mut outs), &mut best) {
+                *best = time(|| call(side, black_box(out))).min(*best);
+            }
             turns += 1;
         }
-        self.print(name, bytes(&answer), best.map(|time| time.as_secs_f64()));
+        self.print(name, bytes(&answer), &best);
     }
 
-    fn print(&self, name: &str, bytes: usize, best: [f64; 2]) {
-        let [library, expert] = best.map(|seconds| bytes as f64 / seconds / 1e6);
-        let [library_row, expert_row] = best.map(|seconds| seconds * 1e9 / self.rows as f64);
+    /// The answer of the library, which the other sides must give with the same output.
+    fn same_answer<const N: usize>(
+        &self,
+        outs: &mut [Vec<u8>],
+        call: impl Fn(&Side, &mut [u8]) -> [u64; N],
+    ) -> [u64; N] {
+        let answer = call(&self.sides[0], &mut outs[0]);
+        assert_eq!(answer[0], 0, "refused");
+        for (i, side) in self.sides.iter().enumerate().skip(1) {
+            let name = side.name();
+            let other = call(side, &mut outs[i]);
+            assert_eq!(
+                answer, other,
+                "the answers of the library and the {name} differ"
+            );
+            assert!(
+                outs[0] == outs[i],
+                "the outputs of the library and the {name} differ"
+            );
+        }
+        answer
+    }
+
+    fn print(&self, name: &str, bytes: usize, best: &[Duration]) {
+        let best: Vec<f64> = best.iter().map(Duration::as_secs_f64).collect();
+        let speed = |seconds: f64| bytes as f64 / seconds / 1e6;
+        let (library, expert) = (speed(best[0]), speed(best[best.len() - 1]));
+        let row = |seconds: &f64| format!("{:.1}", seconds * 1e9 / self.rows as f64);
+        let by_row = best.iter().map(row).collect::<Vec<_>>().join(" | ");
         let (rows, part, ratio) = (self.rows, self.version - 10, library / expert);
-        println!("| {rows} | 1.{part} | {name} | {library:.0} | {expert:.0} | {library_row:.1} | {expert_row:.1} | {ratio:.3} |");
+        println!(
+            "| {rows} | 1.{part} | {name} | {library:.0} | {expert:.0} | {by_row} | {ratio:.3} |"
+        );
     }
 }
 

@@ -1,0 +1,133 @@
+//! An earlier library, opened as a shared object: the present one is linked, and its functions have the same names.
+//!
+//! Why every call here is sound:
+//! - The script `measure` makes the shared object of an archive whose functions are those of `include/bushingowl.h`.
+//! - It is never closed, so that its functions stay where they are.
+//! - A slice goes over as its pointer and its length, and the library reads and writes only within the lengths given.
+//! - `&mut` makes sure that the output and the answer overlap with nothing else in the call. No pointer is kept.
+
+use std::env;
+use std::ffi::{c_char, c_int, c_void, CStr, CString, OsString};
+use std::mem::transmute;
+use std::ptr::NonNull;
+
+type Read = unsafe extern "C" fn(*const u8, usize, *mut u8, usize, *mut u64);
+type Write = unsafe extern "C" fn(u32, u64, *const u8, usize, *mut u8, usize, *mut u64);
+type Export = unsafe extern "C" fn(u64, *const u8, usize, *mut u8, usize, *mut u64);
+
+extern "C" {
+    fn dlopen(path: *const c_char, mode: c_int) -> *mut c_void;
+    fn dlsym(object: *mut c_void, name: *const c_char) -> *mut c_void;
+    fn dlerror() -> *const c_char;
+}
+
+/// The C library's mode in which all that the object needs is found when it is opened, not during its first call.
+const RTLD_NOW: c_int = 2;
+/// The variable in which the script hands over the path.
+const VARIABLE: &str = "BUSHINGOWL_BEFORE_SHARED";
+/// What an answer holds before the call. Every call sets every number.
+const UNSET: u64 = u64::MAX;
+
+/// Its functions are those of `bushingowl::numbers`.
+pub struct Before {
+    read: Read,
+    write: Write,
+    export: Export,
+}
+
+impl Before {
+    /// The library whose path was handed over, if one was; or why it can't be opened.
+    pub fn named() -> Result<Option<Before>, String> {
+        match env::var_os(VARIABLE) {
+            Some(path) if !path.is_empty() => Before::open(path).map(Some),
+            _ => Ok(None),
+        }
+    }
+
+    fn open(path: OsString) -> Result<Before, String> {
+        let object = open(path)?;
+        let read = function(object, c"bo_read")?;
+        let write = function(object, c"bo_write")?;
+        let export = function(object, c"bo_export")?;
+        // SAFETY: see above; the three are functions of the header, with its parameters.
+        unsafe {
+            Ok(Before {
+                read: transmute::<NonNull<c_void>, Read>(read),
+                write: transmute::<NonNull<c_void>, Write>(write),
+                export: transmute::<NonNull<c_void>, Export>(export),
+            })
+        }
+    }
+
+    pub fn read(&self, text: &[u8], out: &mut [u8]) -> [u64; 6] {
+        let mut answer = [UNSET; 6];
+        // SAFETY: see above; the answer has room for the six numbers of the header.
+        unsafe {
+            (self.read)(
+                text.as_ptr(),
+                text.len(),
+                out.as_mut_ptr(),
+                out.len(),
+                answer.as_mut_ptr(),
+            )
+        }
+        answer
+    }
+
+    pub fn write(&self, version: u32, start: u64, records: &[u8], out: &mut [u8]) -> [u64; 3] {
+        let mut answer = [UNSET; 3];
+        // SAFETY: see above; the answer has room for the three numbers of the header.
+        unsafe {
+            (self.write)(
+                version,
+                start,
+                records.as_ptr(),
+                records.len(),
+                out.as_mut_ptr(),
+                out.len(),
+                answer.as_mut_ptr(),
+            )
+        }
+        answer
+    }
+
+    pub fn export(&self, start: u64, records: &[u8], out: &mut [u8]) -> [u64; 5] {
+        let mut answer = [UNSET; 5];
+        // SAFETY: see above; the answer has room for the five numbers of the header.
+        unsafe {
+            (self.export)(
+                start,
+                records.as_ptr(),
+                records.len(),
+                out.as_mut_ptr(),
+                out.len(),
+                answer.as_mut_ptr(),
+            )
+        }
+        answer
+    }
+}
+
+fn open(path: OsString) -> Result<NonNull<c_void>, String> {
+    let path = CString::new(path.into_encoded_bytes()).expect("a variable holds no NUL");
+    // SAFETY: the path ends in NUL and is lent for this call only; the library has nothing that runs when it is opened.
+    let object = unsafe { dlopen(path.as_ptr(), RTLD_NOW) };
+    NonNull::new(object).ok_or_else(failure)
+}
+
+fn function(object: NonNull<c_void>, name: &CStr) -> Result<NonNull<c_void>, String> {
+    // SAFETY: the object is open; the name ends in NUL and is lent for this call only.
+    let function = unsafe { dlsym(object.as_ptr(), name.as_ptr()) };
+    NonNull::new(function).ok_or_else(failure)
+}
+
+/// What the C library says of the call that has just failed.
+fn failure() -> String {
+    // SAFETY: the text, if there is one, ends in NUL and stays until the next of these calls; it is copied here.
+    unsafe {
+        match dlerror() {
+            said if said.is_null() => "no reason is given".to_string(),
+            said => CStr::from_ptr(said).to_string_lossy().into_owned(),
+        }
+    }
+}
