@@ -1,13 +1,12 @@
 -- The table of hexadecimal digits: its rule is tested once over all entries, and carried to each.
 use Prim.Native.Nat.{ℕ, _-_, _≤_, _<_}
-use mathlib.Core.Path.{_≡_, refl}
+use mathlib.Core.Path.{refl}
 use mathlib.Core.Logic.{⊎-elim}
-use mathlib.Core.Bool.{Bool, true, false}
+use mathlib.Core.Bool.{true, false}
 use mathlib.Core.List.{List}
 use native.Mathlib.Omega.{arith}
 use borrow.Author.Tests.{lt-ltb, le-ltb}
-use lib.Dec.{T, eqb, ltb, eqb→eq}
-use lib.ListN.{length}
+use lib.Dec.{T, ltb}
 use Rattle.base.proofs.Numbers.{below-or-not}
 use Rattle.base.proofs.Tables.{row, row-length, flat}
 use Rattle.digits.specs.Digits.{capital, small, figure, letter}
