@@ -21,6 +21,8 @@ use Rattle.fields.specs.declared.Scan.{Scan}
 use Rattle.fields.specs.Runs.{All, empty, more as and, Stops, halt}
 use Rattle.fields.specs.Columns.{NumberField, OffsetField, BusField, LengthField, remoteText, typeTx, Capital}
 use Rattle.fields.specs.inner.Window.{Solid, FieldAt, Takes, taken, not, HexField, TypeField, rx, tx, warng, error}
+use Rattle.digits.proofs.Strings.{each}
+use Rattle.fields.proofs.FixedFields.{byte-at}
 use Rattle.fields.proofs.Window.{field-one}
 use Rattle.fields.proofs.Columns.{number-one, offset-one}
 use Rattle.row.specs.Versions.{Version, is11, is12, versionText}
@@ -136,6 +138,14 @@ length-0-as-8 p = omega (arith, differ (p .spelled))
 pub byte-of-two : {w f rest : List ℕ} {at : ℕ} {s : Scan} → FieldAt f rest (drop at w) → length f ≢ 2 → Takes (Hex 2) w at s → s .end ≡ 0
 byte-of-two a n (taken b e h) = absurd (n (ap length (field-one a b .0) ∙ h .width))
 byte-of-two a n (not e f) = e
+
+-- nor are two bytes of which either is no digit, whatever the other is
+pub no-digit-in-byte : {w : List ℕ} {at i : ℕ} {s : Scan} → i < 2 → ((d : ℕ) → HexDigit (getD w (at + i) 0) d → ⊥) → Takes (Hex 2) w at s → s .end ≡ 0
+no-digit-in-byte {w} {at} {i} l n (taken {f = f} a e h) =
+    let k : i < length f = omega (arith, h .width) in
+    let d = each (h .digits) i k in
+    absurd (n (d .0) (rw (byte-at w at i a k) (d .1)))
+no-digit-in-byte l n (not e f) = e
 
 -- The field that stands there is read as its own value.
 takes-one : {P : ℕ → List ℕ → Type 0} {w f rest : List ℕ} {at v : ℕ} {s : Scan} → ((a b : ℕ) (g : List ℕ) → P a g → P b g → a ≡ b)
