@@ -91,6 +91,11 @@ pub data FromOffset (r : Record) (v : ℕ) : List (List ℕ) → Type 0 where
 pub data RowFields (v k : ℕ) (r : Record) : List (List ℕ) → Type 0 where
   number : {f : List ℕ} {fs : List (List ℕ)} → NumberField k f → FromOffset r v fs → RowFields v k r (f ∷ fs)
 
+-- The numbers that a row may have where e is expected: e alone, or, where e is 0, any, as of the first row of a trace.
+pub data Expected (e k : ℕ) : Type 0 where
+  this : e ≡ k → Expected e k
+  any : e ≡ 0 → Expected e k
+
 -- The line is the row with number k and record r in version v.
 pub record Row (v k : ℕ) (r : Record) (line : List ℕ) : Type 0 where
   pub fields : List (List ℕ)

@@ -29,7 +29,7 @@ module _ {w : List ℕ} {at a : ℕ} (k : Skipped w at a) where
   pub gap-on : {C : List (List ℕ) → Record → Type 0} {o : List ℕ} {e : ℕ} → Leads C w a o e → Leads C w at o e
   gap-on g line l = gap-found k l g
 
-  gap-end : {C : List (List ℕ) → Record → Type 0} {o : List ℕ} {e : ℕ} → getD w a 0 ≡ 13 → Finds C a [] o e → Leads C w at o e
+  pub gap-end : {C : List (List ℕ) → Record → Type 0} {o : List ℕ} {e : ℕ} → getD w a 0 ≡ 13 → Finds C a [] o e → Leads C w at o e
   gap-end z f line l = gap-found k l (λ rest m. end-found w a m z f)
 
   module _ {b : Bool} (d : Decides (getD w a 0 ≡ 13) b) where

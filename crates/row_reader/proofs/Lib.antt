@@ -1,5 +1,6 @@
 pub mod Chain
 pub mod Columns
+pub mod Numbers
 pub mod One
 pub mod Seven
 pub mod Walk

@@ -9,6 +9,9 @@ mod warning;
 
 use digits::hex_table;
 use fields::WINDOW;
+use fields::at_end;
+use fields::number_field;
+use fields::skip_in;
 use lines::LINE_LIMIT;
 use record::Record;
 use record::of_fields;
@@ -19,7 +22,7 @@ ghost use lib.ListN.{length, drop};
 ghost use Rattle.digits.specs.inner.HexTable.{HexTable};
 ghost use Rattle.fields.specs.inner.Window.{windowBytes, LineBeforeCr, Lined};
 ghost use Rattle.base.specs.Text.{cr};
-ghost use Rattle.row_reader.specs.inner.Answer.{ReadsRow, RowFound};
+ghost use Rattle.row_reader.specs.inner.Answer.{ReadsRow, RowFound, NumberOf};
 
 // A record, or not a row.
 pub enum Reading {
@@ -41,6 +44,23 @@ pub fn row_in(
     ensures { λ e. ⌜ ((line : List ℕ) → LineBeforeCr line (drop at (now (w .entry))) → RowFound version k at line (now (out .exit)) e) ⌝ }
 {
     head::gap_number(w, at, hex, version, k, out)
+}
+
+// The number of the row at a place of a window, where row e is expected: e itself, or, where e is 0, the number that stands there. If none stands
+// there, no row does, and any number will do.
+pub fn expected_number(w: &[u8; WINDOW], at: usize, e: u64) -> u64
+    requires { ⌜ Lined (drop at (now w)) ⌝ }
+    ensures { λ k. ⌜ ((line : List ℕ) → LineBeforeCr line (drop at (now (w .entry))) → NumberOf e line k) ⌝ }
+{
+    if e != 0 {
+        return e;
+    }
+    let a = skip_in(w, at);
+    if at_end(w, a) {
+        return 0;
+    }
+    let s = number_field(w, a);
+    s.value
 }
 
 // Puts bytes at the front of a window, and CR behind them.
