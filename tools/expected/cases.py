@@ -22,14 +22,16 @@ def found(n): return 'none' if n is None else str(n)
 # Reading
 
 def read(text, room):
-    six, found = traces.read(text, room)
+    seven, found = traces.read(text, room)
     packed = b''.join(map(records.bits, found)).hex()
-    return numbers(six) + ('' if six[0] else ' ' + packed) + ' untouched'
+    return numbers(seven) + ('' if seven[0] else ' ' + packed) + ' untouched'
 
 def again(text, room):
-    (_, _, version, start, _, _), found = traces.read(text, 60)
+    (number, _, version, start, _, _, first), found = traces.read(text, 60)
+    if number: return 'none'
     s = b''.join(map(records.bits, found))
-    return written(version, start, s, room) + ' ' + exported(start, s, room)
+    assert len(s) == 60, text
+    return written(version, start, first, s, room) + ' ' + exported(start, s, room)
 
 def row(text, version, number):
     r = rows.row(version, number, text)
@@ -53,7 +55,7 @@ def unpack(text, *given):
     return '%s %d %d' % (s.hex(), number, place) + ('' if number else ' ' + fields(f))
 
 def put(text, version, number, *f):
-    if not records.well_formed(f) or not rows.carried(version, f[0], f[1]) or not 1 <= number <= 999_999: return 'none'
+    if not records.well_formed(f) or not rows.carried(version, f[0], f[1]) or not 1 <= number <= rows.LAST_NUMBER: return 'none'
     line = rows.written(version, number, *f)
     return '%d %d %s untouched' % (len(line), len(line) + 2, shown('\xee\xee' + line))
 
@@ -70,8 +72,8 @@ def records_of(text, own):
     if own: made[own - 1:own] = [record_of(other)]
     return b''.join(made).ljust(300, b'\xff')
 
-def written(version, start, s, room):
-    number, place, text = traces.write(version, start, s, room)
+def written(version, start, first, s, room):
+    number, place, text = traces.write(version, start, first, s, room)
     if number: return refused(number, place)
     return '0 0 %d %s untouched %s' % (len(text), shown(text), read(text.encode(), 240))
 
@@ -79,7 +81,7 @@ def exported(start, s, room):
     number, place, text, lines, left_out = ascii_lines.export(start, s, room)
     return refused(number, place) if number else '0 0 %d %d %d %s untouched' % (len(text), lines, left_out, shown(text))
 
-def write(text, version, start, count, room, own=0): return written(version, start, records_of(text, own)[:count], room)
+def write(text, version, start, first, count, room, own=0): return written(version, start, first, records_of(text, own)[:count], room)
 
 def export(text, start, count, room, own=0): return exported(start, records_of(text, own)[:count], room)
 
@@ -111,7 +113,7 @@ def noise(text, seed, count, low):
 
 ARMS = {
     'read': (1, read), 'cut': (2, lambda text, room, count: read(text[:count], room)), 'again': (1, again), 'row': (2, row),
-    'pack': (8, pack), 'unpack': (9, unpack), 'put': (9, put), 'write': (5, write), 'export': (4, export),
+    'pack': (8, pack), 'unpack': (9, unpack), 'put': (9, put), 'write': (6, write), 'export': (4, export),
     'decimal': (0, lambda text: found(digits.decimal(text))), 'padded': (0, lambda text: found(digits.padded(text))),
     'hex': (0, lambda text: found(digits.hexadecimal(text))), 'digits': (2, spelled),
     'start': (1, lambda text, days: str(clock.start(days, text))), 'fraction': (1, fraction),
@@ -135,27 +137,27 @@ for family in open(sys.argv[1], encoding='ascii').read().split('\n'):
     for n in range(int(first), int(last) + 1):
         lines.append(shown(fill(line, n, '%')) + ' -> ' + answer(fill(line, n, plain(given, n))))
 
-# The paper's small trace, its limits, the errors that look right, and what Order 1 says of a line: how these lines begin. The answers are the papers';
-# where they print none, as for the start near a half (3,160,952,640,065.49984 before rounding), for the bits of a record and for the fields of Order 1,
-# they were worked out by hand.
+# The paper's small trace, its limits, the errors that look right, what Order 1 says of a line, and Order 3 of first numbers: how these lines begin. The
+# answers are the papers'; where they print none, as for the start near a half (3,160,952,640,065.49984 before rounding), for the bits of a record, for the
+# fields of Order 1 and for the bytes of Order 3, they were worked out by hand.
 
 PAPER = r'''
-read room 100 small trace: %1) 0.000 1 Rx 0123 2 0A FF\r\n2) 1500.250 2 Tx 18AB0001 0\r\n3) 1500.249 1 Rx 0124 3 RTR\r\n -> 0 0 12 3160987200000 3 3 000000000000080000048c82bfc0000000000000
-again room 300 small trace: %1) 0.000 1 Rx 0123 2 0A FF\r\n2) 1500.250 2 Tx 18AB0001 0\r\n3) 1500.249 1 Rx 0124 3 RTR\r\n -> 0 0 135 ;$FILEVERSION=1.2\r\n;$STARTTIME=36585.5000000000\r\n1) 0.000 1 Rx 0123 2 0A FF\r\n2) 1500.250 2 Tx 18AB0001 0\r\n3) 1500.249 1 Rx 0124 3 RTR\r\n untouched 0 0 12 3160987200000 3 3 000000000000080000048c82bfc0000000000000
-write version 12 start 3160987200000 bytes 60 room 135: % -> 0 0 135 ;$FILEVERSION=1.2\r\n;$STARTTIME=36585.5000000000\r\n1) 0.000 1 Rx 0123 2 0A FF\r\n2) 1500.250 2 Tx 18AB0001 0\r\n3) 1500.249 1 Rx 0124 3 RTR\r\n untouched 0 0 12 3160987200000 3 3 000000000000080000048c82bfc0000000000000
+read room 100 small trace: %1) 0.000 1 Rx 0123 2 0A FF\r\n2) 1500.250 2 Tx 18AB0001 0\r\n3) 1500.249 1 Rx 0124 3 RTR\r\n -> 0 0 12 3160987200000 3 3 1 000000000000080000048c82bfc0000000000000
+again room 300 small trace: %1) 0.000 1 Rx 0123 2 0A FF\r\n2) 1500.250 2 Tx 18AB0001 0\r\n3) 1500.249 1 Rx 0124 3 RTR\r\n -> 0 0 135 ;$FILEVERSION=1.2\r\n;$STARTTIME=36585.5000000000\r\n1) 0.000 1 Rx 0123 2 0A FF\r\n2) 1500.250 2 Tx 18AB0001 0\r\n3) 1500.249 1 Rx 0124 3 RTR\r\n untouched 0 0 12 3160987200000 3 3 1 000000000000080000048c82bfc0000000000000
+write version 12 start 3160987200000 first 1 bytes 60 room 135: % -> 0 0 135 ;$FILEVERSION=1.2\r\n;$STARTTIME=36585.5000000000\r\n1) 0.000 1 Rx 0123 2 0A FF\r\n2) 1500.250 2 Tx 18AB0001 0\r\n3) 1500.249 1 Rx 0124 3 RTR\r\n untouched 0 0 12 3160987200000 3 3 1 000000000000080000048c82bfc0000000000000
 export start 3160987200000 bytes 60 room 111: % -> 0 0 111 2 1 29.02.2000 12:00:00.0000 CAN #1 | Rx 123 2 0a ff\r\n29.02.2000 12:00:01.5002 CANExt #2 | EXTENDED Tx 18ab0001 0\r\n untouched
 convert records 72800 page 313040 small trace: %1) 0.000 1 Rx 0123 2 0A FF\r\n2) 1500.250 2 Tx 18AB0001 0\r\n3) 1500.249 1 Rx 0124 3 RTR\r\n -> 111 29.02.2000 12:00:00.0000 CAN #1 | Rx 123 2 0a ff\r\n29.02.2000 12:00:01.5002 CANExt #2 | EXTENDED Tx 18ab0001 0\r\n untouched
-read room 100 day 0: ;$FILEVERSION=1.2\r\n;$STARTTIME=0.0\r\n -> 0 0 12 0 0 0
-read room 100 day 37704, last digits 33: ;$FILEVERSION=1.2\r\n;$STARTTIME=37704.5364870833\r\n -> 0 0 12 3257671952484 0 0
-read room 100 day 39878, last digits 47: ;$FILEVERSION=1.2\r\n;$STARTTIME=39878.6772258947\r\n -> 0 0 12 3445517712317 0 0
-read room 100 day past the last start, 99: ;$FILEVERSION=1.2\r\n;$STARTTIME=99999.9999999999\r\n -> 5 2 0 0 0 0 untouched
-read room 100 id of four digits, 2047: %1) 0.000 1 Rx 07FF 0\r\n -> 0 0 12 3160987200000 1 0
-read room 100 id of four digits, 2048: %1) 0.000 1 Rx 0800 0\r\n -> 7 3 0 0 0 0 untouched
-read room 100 id of eight digits, 536870911: %1) 0.000 1 Rx 1FFFFFFF 0\r\n -> 0 0 12 3160987200000 1 0
-read room 100 id of eight digits, 536870912: %1) 0.000 1 Rx 20000000 0\r\n -> 7 3 0 0 0 0 untouched
-read room 100 length 0 with no byte: %1) 0.000 1 Rx 0123 0\r\n -> 0 0 12 3160987200000 1 0
-read room 100 length 0 with one byte: %1) 0.000 1 Rx 0123 0 00\r\n -> 7 3 0 0 0 0 untouched
-read room 100 length 8 with RTR: %1) 0.000 1 Rx 0123 8 RTR\r\n -> 0 0 12 3160987200000 1 0
+read room 100 day 0: ;$FILEVERSION=1.2\r\n;$STARTTIME=0.0\r\n -> 0 0 12 0 0 0 0
+read room 100 day 37704, last digits 33: ;$FILEVERSION=1.2\r\n;$STARTTIME=37704.5364870833\r\n -> 0 0 12 3257671952484 0 0 0
+read room 100 day 39878, last digits 47: ;$FILEVERSION=1.2\r\n;$STARTTIME=39878.6772258947\r\n -> 0 0 12 3445517712317 0 0 0
+read room 100 day past the last start, 99: ;$FILEVERSION=1.2\r\n;$STARTTIME=99999.9999999999\r\n -> 5 2 0 0 0 0 0 untouched
+read room 100 id of four digits, 2047: %1) 0.000 1 Rx 07FF 0\r\n -> 0 0 12 3160987200000 1 0 1
+read room 100 id of four digits, 2048: %1) 0.000 1 Rx 0800 0\r\n -> 7 3 0 0 0 0 0 untouched
+read room 100 id of eight digits, 536870911: %1) 0.000 1 Rx 1FFFFFFF 0\r\n -> 0 0 12 3160987200000 1 0 1
+read room 100 id of eight digits, 536870912: %1) 0.000 1 Rx 20000000 0\r\n -> 7 3 0 0 0 0 0 untouched
+read room 100 length 0 with no byte: %1) 0.000 1 Rx 0123 0\r\n -> 0 0 12 3160987200000 1 0 1
+read room 100 length 0 with one byte: %1) 0.000 1 Rx 0123 0 00\r\n -> 7 3 0 0 0 0 0 untouched
+read room 100 length 8 with RTR: %1) 0.000 1 Rx 0123 8 RTR\r\n -> 0 0 12 3160987200000 1 0 1
 pack offset 0 bus 1 kind 0 extended 0 id x123 length 2 data x0AFF000000000000 room 20 -> 0 0 000000000000080000048c82bfc0000000000000
 unpack offset 0 bus 1 kind 0 extended 0 id x123 length 2 data x0AFF000000000000 spare 0 bytes 20 -> 000000000000080000048c82bfc0000000000000 0 0
 export start 3160944000000 bytes 20 room 300: % -> 0 0 50 1 0 29.02.2000
@@ -164,18 +166,18 @@ start day 37704: 5364870833 -> 3257671952484
 start day 39878: 6772258947 -> 3445517712317
 date days 36585 -> 29 2 2000
 date days 25569 -> 1 1 1970
-read room 100 bus 16: %1) 0.000 16 Rx 0123 0\r\n -> 0 0 12 3160987200000 1 0 00000000000080
-read room 100 bus 17: %1) 0.000 17 Rx 0123 0\r\n -> 7 3 0 0 0 0 untouched
-read room 100 position 15: %1) 0.000 1 Error 0001 4 00 0F 00 00\r\n -> 0 0 12 3160987200000 1 0
-read room 100 position 16: %1) 0.000 1 Error 0001 4 00 10 00 00\r\n -> 7 3 0 0 0 0 untouched
-read room 100 row 3 with number 2: %1) 0.000 1 Rx 0123 0\r\n2) 0.000 1 Rx 0123 0\r\n2) 0.000 1 Rx 0123 0\r\n -> 7 5 0 0 0 0 untouched
-read room 100 two header lines and no rows: % -> 0 0 12 3160987200000 0 0
-read room 100 lone CR: \r -> 2 1 0 0 0 0 untouched
-read room 100 offset 4294967296: %1) 4294967296.000 1 Rx 0123 0\r\n -> 0 0 12 3160987200000 1 0 03e80000000008
-read room 100 day near a half: ;$FILEVERSION=1.2\r\n;$STARTTIME=36585.1000007581\r\n -> 0 0 12 3160952640065 0 0
-read room 100 id of eight digits, 291: %1) 0.000 1 Rx 00000123 0\r\n -> 0 0 12 3160987200000 1 0 000000000000088000048c00
-read room 100 word AB: %1) 0.000 1 Warng FFFFFFFF 4 00 00 00 08 AB\r\n -> 0 0 12 3160987200000 1 0 0000000000000c0000000100000002
-read room 60 of 60 bytes, row 3 refused: ;$FILEVERSION=1.1\r\n;$STARTTIME=0.5\r\n1) 0.0 Rx 0123 0\r\n2) 0.1 Rx 0123 0\r\n2) 0.2 Rx 0123 0\r\n -> 7 5 0 0 0 0 untouched
+read room 100 bus 16: %1) 0.000 16 Rx 0123 0\r\n -> 0 0 12 3160987200000 1 0 1 00000000000080
+read room 100 bus 17: %1) 0.000 17 Rx 0123 0\r\n -> 7 3 0 0 0 0 0 untouched
+read room 100 position 15: %1) 0.000 1 Error 0001 4 00 0F 00 00\r\n -> 0 0 12 3160987200000 1 0 1
+read room 100 position 16: %1) 0.000 1 Error 0001 4 00 10 00 00\r\n -> 7 3 0 0 0 0 0 untouched
+read room 100 row 3 with number 2: %1) 0.000 1 Rx 0123 0\r\n2) 0.000 1 Rx 0123 0\r\n2) 0.000 1 Rx 0123 0\r\n -> 7 5 0 0 0 0 0 untouched
+read room 100 two header lines and no rows: % -> 0 0 12 3160987200000 0 0 0
+read room 100 lone CR: \r -> 2 1 0 0 0 0 0 untouched
+read room 100 offset 4294967296: %1) 4294967296.000 1 Rx 0123 0\r\n -> 0 0 12 3160987200000 1 0 1 03e80000000008
+read room 100 day near a half: ;$FILEVERSION=1.2\r\n;$STARTTIME=36585.1000007581\r\n -> 0 0 12 3160952640065 0 0 0
+read room 100 id of eight digits, 291: %1) 0.000 1 Rx 00000123 0\r\n -> 0 0 12 3160987200000 1 0 1 000000000000088000048c00
+read room 100 word AB: %1) 0.000 1 Warng FFFFFFFF 4 00 00 00 08 AB\r\n -> 0 0 12 3160987200000 1 0 1 0000000000000c0000000100000002
+read room 60 of 60 bytes, row 3 refused: ;$FILEVERSION=1.1\r\n;$STARTTIME=0.5\r\n1) 0.0 Rx 0123 0\r\n2) 0.1 Rx 0123 0\r\n2) 0.2 Rx 0123 0\r\n -> 7 5 0 0 0 0 0 untouched
 explain version 12 number 1: 1) 0.000 1 Rx 0123 2 0A FF -> 30 0 0 0
 explain version 11 number 1: 1) 0.000 1 Rx 0123 2 0A FF -> 0 0 1 2
 explain version 12 number 1: 2) 0.000 1 Rx 0123 2 0A FF -> 0 0 1 1
@@ -199,13 +201,57 @@ explain version 12 number 1: ;\x09$X -> 30 0 0 0
 explain version 12 number 1: ;$X -> 0 0 1 1
 explain version 12 number 1: ; $X -> 0 0 1 1
 explain version 12 number 1: 1) 0.000 1 Rx 0123 9\r\n -> 30 0 0 0
-explain version 12 number 0: x -> 30 0 0 0
 explain version 12 number 1000000: x -> 30 0 0 0
 explain version 12 number xFFFFFFFFFFFFFFFF: 18446744073709551615) 0.000 1 Rx 0123 0 -> 30 0 0 0
 explain version 13 number 1: ; -> 21 0 0 0
 explain version 10 number 0: 0) 0.0 Rx 0123 0 -> 21 0 0 0
+read room 100 row 1 with number 0: %0) 0.000 1 Rx 0123 0\r\n -> 7 3 0 0 0 0 0 untouched
+read room 100 row 1 with number 1 and a zero before: %01) 0.000 1 Rx 0123 0\r\n -> 7 3 0 0 0 0 0 untouched
+read room 100 row 1 with number 2: %2) 0.000 1 Rx 0123 0\r\n -> 0 0 12 3160987200000 1 0 2 000000000000080000048c000000000000000000 untouched
+read room 100 row 1 with number 4117: %4117) 0.000 1 Rx 0123 0\r\n -> 0 0 12 3160987200000 1 0 4117 000000000000080000048c000000000000000000 untouched
+read room 100 row 1 with number 999999: %999999) 0.000 1 Rx 0123 0\r\n -> 0 0 12 3160987200000 1 0 999999 000000000000080000048c000000000000000000 untouched
+read room 100 row 1 with number 1000000: %1000000) 0.000 1 Rx 0123 0\r\n -> 7 3 0 0 0 0 0 untouched
+read room 100 row 2 behind 4117 with number 4116: %4117) 0.000 1 Rx 0123 0\r\n4116) 0.000 1 Rx 0123 0\r\n -> 7 4 0 0 0 0 0 untouched
+read room 100 row 2 behind 4117 with number 4117: %4117) 0.000 1 Rx 0123 0\r\n4117) 0.000 1 Rx 0123 0\r\n -> 7 4 0 0 0 0 0 untouched
+read room 100 row 2 behind 4117 with number 4118: %4117) 0.000 1 Rx 0123 0\r\n4118) 0.000 1 Rx 0123 0\r\n -> 0 0 12 3160987200000 2 0 4117
+read room 100 row 2 behind 4117 with number 4119: %4117) 0.000 1 Rx 0123 0\r\n4119) 0.000 1 Rx 0123 0\r\n -> 7 4 0 0 0 0 0 untouched
+read room 100 row 2 behind 999999 with number 1000000: %999999) 0.000 1 Rx 0123 0\r\n1000000) 0.000 1 Rx 0123 0\r\n -> 7 4 0 0 0 0 0 untouched
+read room 100 row 2 behind 999999 with number 1: %999999) 0.000 1 Rx 0123 0\r\n1) 0.000 1 Rx 0123 0\r\n -> 7 4 0 0 0 0 0 untouched
+read room 100 gap in the middle: %4117) 0.000 1 Rx 0123 0\r\n4118) 0.000 1 Rx 0123 0\r\n4120) 0.000 1 Rx 0123 0\r\n4121) 0.000 1 Rx 0123 0\r\n -> 7 5 0 0 0 0 0 untouched
+read room 100 no rows, but a comment like one: %;4117) 0.000 1 Rx 0123 0\r\n; 1) 0.000 1 Rx 0123 0\r\n -> 0 0 12 3160987200000 0 0 0
+read room 100 comment like row 1 before row 4117: %;1) 0.000 1 Rx 0123 0\r\n4117) 0.000 1 Rx 0123 0\r\n -> 0 0 12 3160987200000 1 0 4117
+read room 100 row 4119 at 5.499: %4117) 5.000 1 Rx 0123 0\r\n4118) 5.500 1 Rx 0123 0\r\n4119) 5.499 1 Rx 0123 0\r\n -> 0 0 12 3160987200000 3 3 4117
+again room 144 from row 4117: %4117) 0.000 1 Rx 0123 2 0A FF\r\n4118) 1500.250 2 Tx 18AB0001 0\r\n4119) 1500.249 1 Rx 0124 3 RTR\r\n -> 0 0 144 ;$FILEVERSION=1.2\r\n;$STARTTIME=36585.5000000000\r\n4117) 0.000 1 Rx 0123 2 0A FF\r\n4118) 1500.250 2 Tx 18AB0001 0\r\n4119) 1500.249 1 Rx 0124 3 RTR\r\n untouched 0 0 12 3160987200000 3 3 4117 000000000000080000048c82bfc0000000000000
+write version 12 start 0 first 0 bytes 0 room 300: % -> 0 0 45 ;$FILEVERSION=1.2\r\n;$STARTTIME=0.0000000000\r\n untouched 0 0 12 0 0 0 0  untouched
+write version 12 start 0 first 1 bytes 0 room 300: % -> 26 0 untouched
+write version 12 start 0 first 0 bytes 20 room 300: % -> 26 0 untouched
+write version 12 start 0 first 999999 bytes 20 room 300: % -> 0 0 78 ;$FILEVERSION=1.2\r\n;$STARTTIME=0.0000000000\r\n999999) 0.000 1 Rx 0123 2 0A FF\r\n untouched 0 0 12 0 1 0 999999 000000000000080000048c82bfc0000000000000 untouched
+write version 12 start 0 first 1000000 bytes 20 room 300: % -> 26 0 untouched
+write version 12 start 0 first 999998 bytes 40 room 300: %;% -> 0 0 111
+write version 12 start 0 first 999999 bytes 40 room 300: %;% -> 26 0 untouched
+write version 12 start 0 first xFFFFFFFFFFFFFFFF bytes 60 room 300: %;%;% -> 26 0 untouched
+write version 12 start 8640000000000 first 0 bytes 20 room 0: 0 0 0 0 x123 2 x0AFF000000000000 1 -> 22 0 untouched
+write version 12 start 8639999999999 first 0 bytes 20 room 0: 0 0 0 0 x123 2 x0AFF000000000000 1 -> 26 0 untouched
+write version 12 start 8639999999999 first 1 bytes 20 room 0: 0 0 0 0 x123 2 x0AFF000000000000 1 -> 23 1 untouched
+write version 12 start 0 first 4117 bytes 60 room 300 own 2: %;%;%|% 1 -> 23 2 untouched
+write version 12 start 0 first 4117 bytes 60 room 300 own 3: %;%;%|0 0 0 0 x123 2 x0AFF000000000000 -> 24 3 untouched
+explain version 12 number 0: 1) 0.000 1 Rx 0123 2 0A FF -> 30 0 0 0
+explain version 12 number 0: 4117) 0.000 1 Rx 0123 2 0A FF -> 30 0 0 0
+explain version 12 number 0: 999999) 0.000 1 Rx 0123 2 0A FF -> 30 0 0 0
+explain version 12 number 0: 0) 0.000 1 Rx 0123 0 -> 0 0 1 1
+explain version 12 number 0: 01) 0.000 1 Rx 0123 0 -> 0 0 1 1
+explain version 12 number 0: 1000000) 0.000 1 Rx 0123 0 -> 0 0 1 1
+explain version 12 number 0: 4117) 0.000 17 Rx 0123 2 0A FF -> 0 0 1 3
+explain version 12 number 0: 4117) 0.000 1 Rx 0123 8 01 -> 0 0 2 7
+explain version 12 number 0: x -> 0 0 1 1
+explain version 11 number 0:  -> 0 0 2 0
+explain version 12 number 0: ;4117) 0.000 1 Rx 0123 0 -> 30 0 0 0
+explain version 12 number 0: 4117)\r0.000 1 Rx 0123 0 -> 30 0 0 0
+explain version 11 number 999999: 999999) 0.0 Rx 0123 0 -> 30 0 0 0
+explain version 11 number 999999: 999998) 0.0 Rx 0123 0 -> 0 0 1 1
+explain version 11 number 1000000: 1000000) 0.0 Rx 0123 0 -> 30 0 0 0
 '''
-LONG = [r'read room 100 comment with %d x: %%;%s\r\n -> %s' % (x, 'x' * x, said) for x, said in ((249, '0 0 12'), (250, '3 3 0 0 0 0'))]
+LONG = [r'read room 100 comment with %d x: %%;%s\r\n -> %s' % (x, 'x' * x, said) for x, said in ((249, '0 0 12'), (250, '3 3 0 0 0 0 0'))]
 LONG += ['explain version 12 number 1: 1) 0.000 1 Rx 0123 %d%s -> %s' % (n, ' ' * 232, said) for n, said in ((0, '30 0 0 0'), (9, '0 0 1 6'))]
 for said in PAPER.strip('\n').split('\n') + LONG: assert any(line.startswith(said) for line in lines), said
 print('\n'.join(lines))

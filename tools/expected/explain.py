@@ -1,5 +1,5 @@
-"""What is wrong with a line that is no row, by Order 1 of paper 02 over the columns of paper 01. A kind of row is a list of forms, one for each of its fields, and
-none leans on what another field holds; so fields begin a row exactly if one by one they have the first forms of some kind."""
+"""What is wrong with a line that is no row, by Orders 1 and 3 of paper 02 over the columns of paper 01. A kind of row is a list of forms, one for each of its fields,
+and none leans on what another field holds; so fields begin a row exactly if one by one they have the first forms of some kind."""
 import re
 
 BYTE = rb'[0-9A-Fa-f]{2}'
@@ -8,11 +8,15 @@ FRAME_ID = rb'0[0-7][0-9A-Fa-f]{2}|[01][0-9A-Fa-f]{7}'
 POSITION = b'(?i:%s)' % b'|'.join(b'%02x' % p for p in (*range(2, 16), 17, 18, 19, *range(23, 29)))
 WORD = rb'[A-Z]+'
 
+def row_number(number):
+    """that number, or for 0, which is a first row's, any from 1 to 999,999"""
+    return rb'%d\)' % number if number else rb'[1-9][0-9]{0,5}\)'
+
 def offset(digits): return rb'(?:0|[1-9][0-9]{0,10})\.[0-9]{%d}' % digits
 
 def kinds(version, number):
     """the forms of the fields of each kind of row, and the form of any number of fields behind them, or None"""
-    head = [rb'%d\)' % number, offset(1)] if version == 11 else [rb'%d\)' % number, offset(3), BUS]
+    head = [row_number(number), offset(1)] if version == 11 else [row_number(number), offset(3), BUS]
     for length in range(9):
         frame = head + [b'Rx|Tx', FRAME_ID, b'%d' % length]
         yield frame + [BYTE] * length, None
@@ -31,7 +35,7 @@ def is_comment(line): return re.fullmatch(rb'; *(?:[^ $].*)?', line, re.S) is no
 def explain(line, version, number):
     """number, place, reason (1 wrong field, 2 ended early) and field"""
     if version not in (11, 12): return 21, 0, 0, 0
-    if not 1 <= number <= 999_999 or b'\r' in line or b'\n' in line or is_comment(line): return 30, 0, 0, 0
+    if number > 999_999 or b'\r' in line or b'\n' in line or is_comment(line): return 30, 0, 0, 0
     fields = re.findall(rb'[^ ]+', line)
     begun = list(kinds(version, number))
     for i, field in enumerate(fields, 1):

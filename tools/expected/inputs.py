@@ -8,7 +8,7 @@ def refused(number, place): return 'refused %d at line %d\r\n' % (number, place)
 def prints(text, room):
     """None where the trace is good and its records have no room"""
     if len(text) > 65_536: return refused(1, 0)
-    (number, place, _, start, _, _), found = traces.read(text, room)
+    (number, place, _, start, *_), found = traces.read(text, room)
     if number == 8: return None
     return refused(number, place) if number else ''.join(ascii_lines.lines(start, found))
 

@@ -1,6 +1,8 @@
 """Rows, by the columns of paper 01 and its sentences on writing."""
 import re
 
+LAST_NUMBER = 999_999
+
 def decimal(s): return int(s) if re.fullmatch(rb'0|[1-9][0-9]*', s) else None
 
 def data_bytes(fields, n):
@@ -23,11 +25,16 @@ def written(version, k, offset, bus, kind, extended, ident, length, data):
     fields += ['RTR'] if kind in (2, 3) else ['%02X' % b for b in data.to_bytes(8, 'big')[:length]]
     return ' '.join(fields)
 
+def number(line):
+    """the row number with which a line begins, or 0"""
+    m = re.match(rb' *([1-9][0-9]{0,5})\)', line)
+    return int(m[1]) if m else 0
+
 def row(version, k, line):
     """(offset, bus, kind, extended, id, length, data) or None"""
     if len(line) > 250 or version not in (11, 12): return None
     f = [x for x in line.split(b' ') if x]
-    if len(f) < 2 or f[0] != b'%d)' % k or not 1 <= k <= 999_999: return None
+    if len(f) < 2 or f[0] != b'%d)' % k or not 1 <= k <= LAST_NUMBER: return None
     m = re.fullmatch(rb'(0|[1-9][0-9]{0,10})\.([0-9]{%d})' % (1 if version == 11 else 3), f[1])
     if not m: return None
     offset = int(m[1]) * 1000 + int(m[2].ljust(3, b'0'))

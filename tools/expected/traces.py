@@ -1,4 +1,4 @@
-"""Texts, by paper 01's lines of a trace, its sentences on writing, and its numbers."""
+"""Texts, by paper 01's lines of a trace, its sentences on writing, and its numbers, with the first number of paper 02's Order 3."""
 import re
 import clock, records, rows
 
@@ -8,46 +8,55 @@ def start(line):
     ms = clock.start(int(m[1]), m[2])
     return ms if ms <= clock.LAST_START else None
 
+def refused(number, place): return (number, place, 0, 0, 0, 0, 0), []
+
 def read(text, room):
-    """the six numbers, and the records"""
-    rest, place, version, began, found = text, 0, None, None, []
+    """the seven numbers, and the records"""
+    rest, place, version, began, first, found = text, 0, None, None, 0, []
     while True:
         place += 1
         if not rest:
-            if place <= 2: return (place + 3, place, 0, 0, 0, 0), []
+            if place <= 2: return refused(place + 3, place)
             break
         end = re.search(rb'[\r\n]', rest)
-        if not end or rest[end.start():end.start() + 2] != b'\r\n': return (2, place, 0, 0, 0, 0), []
+        if not end or rest[end.start():end.start() + 2] != b'\r\n': return refused(2, place)
         line, rest = rest[:end.start()], rest[end.start() + 2:]
-        if len(line) > 250: return (3, place, 0, 0, 0, 0), []
+        if len(line) > 250: return refused(3, place)
         if place == 1:
             m = re.fullmatch(rb'; *\$FILEVERSION=1\.([12]) *', line)
-            if not m: return (4, 1, 0, 0, 0, 0), []
+            if not m: return refused(4, 1)
             version = 10 + int(m[1])
         elif place == 2:
             began = start(line)
-            if began is None: return (5, 2, 0, 0, 0, 0), []
+            if began is None: return refused(5, 2)
         elif line[:1] == b';':
-            if line[1:].lstrip(b' ')[:1] == b'$': return (6, place, 0, 0, 0, 0), []
+            if line[1:].lstrip(b' ')[:1] == b'$': return refused(6, place)
         else:
-            r = rows.row(version, len(found) + 1, line)
-            if r is None: return (7, place, 0, 0, 0, 0), []
+            if not found: first = rows.number(line)
+            r = rows.row(version, first + len(found), line)
+            if r is None: return refused(7, place)
             found.append(r)
-    if 20 * len(found) > room: return (8, 0, 0, 0, 0, 0), []
+    if 20 * len(found) > room: return refused(8, 0)
     back = next((i + 1 for i in range(1, len(found)) if found[i][0] < found[i - 1][0]), 0)
-    return (0, 0, version, began, len(found), back), found
+    return (0, 0, version, began, len(found), back, first), found
 
-def write(version, start, s, room):
+def numbered(first, count):
+    """whether so many rows may have the numbers from the first on"""
+    if count == 0: return first == 0
+    return first >= 1 and first + count - 1 <= rows.LAST_NUMBER
+
+def write(version, start, first, s, room):
     """number, place and text"""
     number, place, found = records.several(s)
     if number == 20: return 20, 0, ''
     if version not in (11, 12): return 21, 0, ''
     if start > clock.LAST_START: return 22, 0, ''
+    if not numbered(first, len(s) // 20): return 26, 0, ''
     if number: return number, place, ''
     for k, f in enumerate(found, 1):
         if not rows.carried(version, f[0], f[1]): return 24, k, ''
     day, ms = divmod(start, clock.DAY)
     lines = [';$FILEVERSION=' + {11: '1.1', 12: '1.2'}[version], ';$STARTTIME=%d.%010d' % (day, clock.fraction(ms))]
-    lines += [rows.written(version, k, *f) for k, f in enumerate(found, 1)]
+    lines += [rows.written(version, k, *f) for k, f in enumerate(found, first)]
     text = ''.join(line + '\r\n' for line in lines)
     return (25, 0, '') if len(text) > room else (0, 0, text)

@@ -20,9 +20,9 @@ ghost use Rattle.trace_writer.specs.Promise.{WritePromise};
 ghost use Rattle.ascii.specs.Promise.{ExportPromise};
 ghost use Rattle.explain.specs.Promise.{ExplainPromise};
 
-// Number, place, version (11 or 12), start, rows, first step back.
+// Number, place, version (11 or 12), start, rows, first step back, first number.
 #[no_mangle]
-pub extern "C" fn bo_read(text: &[u8], out: &mut [u8], answer: &mut [u64; 6])
+pub extern "C" fn bo_read(text: &[u8], out: &mut [u8], answer: &mut [u64; 7])
     ensures { λ _. ⌜ ReadPromise (now (text .entry)) (now (out .entry)) (now (answer .exit)) (now (out .exit)) ⌝ }
 {
     let a = read(text, out);
@@ -32,11 +32,12 @@ pub extern "C" fn bo_read(text: &[u8], out: &mut [u8], answer: &mut [u64; 6])
             start,
             rows,
             step_back,
+            first,
         } => {
-            *answer = [0, 0, version, start, rows, step_back];
+            *answer = [0, 0, version, start, rows, step_back, first];
         }
         Outcome::Refused { number, place } => {
-            *answer = [number, place, 0, 0, 0, 0];
+            *answer = [number, place, 0, 0, 0, 0, 0];
         }
     }
 }
@@ -46,13 +47,14 @@ pub extern "C" fn bo_read(text: &[u8], out: &mut [u8], answer: &mut [u64; 6])
 pub extern "C" fn bo_write(
     version: u32,
     start: u64,
+    first: u64,
     records: &[u8],
     out: &mut [u8],
     answer: &mut [u64; 3],
 )
-    ensures { λ _. ⌜ WritePromise version start (now (records .entry)) (now (out .entry)) (now (answer .exit)) (now (out .exit)) ⌝ }
+    ensures { λ _. ⌜ WritePromise version start first (now (records .entry)) (now (out .entry)) (now (answer .exit)) (now (out .exit)) ⌝ }
 {
-    let a = write(version as u64, start, records, out);
+    let a = write(version as u64, start, first, records, out);
     match a {
         Written::Done { bytes } => {
             *answer = [0, 0, bytes as u64];

@@ -23,14 +23,15 @@ const AGAIN: u64 = 0x616761696E;
 
 const ROW: u64 = 0x726F77;
 
-// Number, place, version, start, rows and first step back.
-fn six(n: u64, place: u64, version: u64, start: u64, rows: u64, step_back: u64) {
+// Number, place, version, start, rows, first step back and first number.
+fn seven(n: u64, place: u64, version: u64, start: u64, rows: u64, step_back: u64, first: u64) {
     number(n);
     number(place);
     number(version);
     number(start);
     number(rows);
     number(step_back);
+    number(first);
 }
 
 // How many bytes so many records are; there are few in these cases.
@@ -53,12 +54,13 @@ fn answer(a: Outcome, out: &[u8]) {
             start,
             rows,
             step_back,
+            first,
         } => {
-            six(0, 0, version, start, rows, step_back);
+            seven(0, 0, version, start, rows, step_back, first);
             packed(out, size(rows));
         }
         Outcome::Refused { number: n, place } => {
-            six(n, place, 0, 0, 0, 0);
+            seven(n, place, 0, 0, 0, 0, 0);
             rest(out, 0);
         }
     }
@@ -87,8 +89,9 @@ fn again(s: &[u8], room: usize) {
             start,
             rows: _,
             step_back: _,
+            first,
         } => {
-            written(version, start, &records, room);
+            written(version, start, first, &records, room);
             exported(start, &records, room);
         }
         Outcome::Refused {

@@ -26,9 +26,9 @@ pub(crate) fn page() -> [u8; 700]
 
 // Writes records as a trace, into the first `room` bytes of a page: number, place, bytes and text, and what is
 // read back from it, with room for twelve records.
-fn write_into(version: u64, start: u64, records: &[u8], out: &mut [u8], room: usize) {
+fn write_into(version: u64, start: u64, first: u64, records: &[u8], out: &mut [u8], room: usize) {
     if room <= out.len() {
-        let w = trace_writer::write(version, start, records, &mut out[0..room]);
+        let w = trace_writer::write(version, start, first, records, &mut out[0..room]);
         match w {
             Written::Done { bytes } => {
                 number(0);
@@ -66,9 +66,9 @@ fn export_into(start: u64, records: &[u8], out: &mut [u8], room: usize) {
     }
 }
 
-pub(crate) fn written(version: u64, start: u64, records: &[u8], room: usize) {
+pub(crate) fn written(version: u64, start: u64, first: u64, records: &[u8], room: usize) {
     let mut out = page();
-    write_into(version, start, records, &mut out, room);
+    write_into(version, start, first, records, &mut out, room);
 }
 
 pub(crate) fn exported(start: u64, records: &[u8], room: usize) {
@@ -78,8 +78,14 @@ pub(crate) fn exported(start: u64, records: &[u8], room: usize) {
 
 // Writes the first bytes of records.
 fn write(a: [u64; 9], s: &[u8]) {
-    let records = records_of(s, a[4] as usize);
-    written(a[0], a[1], front(&records, a[2] as usize), a[3] as usize);
+    let records = records_of(s, a[5] as usize);
+    written(
+        a[0],
+        a[1],
+        a[2],
+        front(&records, a[3] as usize),
+        a[4] as usize,
+    );
 }
 
 // Exports the first bytes of records.

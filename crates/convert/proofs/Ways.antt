@@ -17,6 +17,7 @@ use Rattle.trace.specs.Trace.{Trace, Spells, traceOf}
 use Rattle.trace.specs.Promise.{readNumbers, ReadPromise, RefusedAtLine}
 use Rattle.trace.specs.House.{Writable}
 use Rattle.trace.proofs.Answers.{not-refused, refused-numbers}
+use Rattle.trace.proofs.Numbers.{rows-numbered}
 use Rattle.trace.proofs.There.{read-writable}
 use Rattle.trace_writer.proofs.Again.{Read, read-done}
 use Rattle.ascii.specs.declared.Exported.the-variants as exported
@@ -59,11 +60,11 @@ unread {n} {p} h (ReadPromise.refused {n = m} {p = o} l f e q) d =
     let k : p ≡ o = cc in
     rw (g, k) f
 
-module _ {version start rows steps : ℕ} {input records x : List ℕ} (h : length input ≤ inputLimit) (p : ReadPromise input records (readNumbers (outcome.Done version start rows steps)) x) where
-  reading : Read version start rows steps input records x
+module _ {version start first rows steps : ℕ} {input records x : List ℕ} (h : length input ≤ inputLimit) (p : ReadPromise input records (readNumbers (outcome.Done version start rows steps first)) x) where
+  reading : Read version start first rows steps input records x
   reading = read-done p
 
-  able : Writable (traceOf version start (reading .records))
+  able : Writable (traceOf version start first (reading .records))
   able = read-writable (reading .spelled)
 
   held : PacksAll (reading .records) (take (20 * rows) x)
@@ -73,7 +74,7 @@ module _ {version start rows steps : ℕ} {input records x : List ℕ} (h : leng
   never : {n q : ℕ} → ascii.ExportStopped start (take (20 * rows) x) n q → ⊥
   never (ascii.no-records f) =
       let l = ap length (held .bytes) ∙ packed-length (reading .records) in
-      f (record { twenties = omega arith; few = omega (arith, able .few) })
+      f (record { twenties = omega arith; few = omega (arith, rows-numbered (able .numbered)) })
   never (ascii.late w l) = omega (arith, able .start)
   never (ascii.malformed w l f) = none-malformed held f
 

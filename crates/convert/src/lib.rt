@@ -52,6 +52,7 @@ pub fn convert(input: &[u8], records: &mut [u8], page: &mut [u8]) -> Printed
             start,
             rows,
             step_back: _,
+            first: _,
         } => {
             let end = (20 * rows) as usize;
             let e = export(start, &records[0..end], page);

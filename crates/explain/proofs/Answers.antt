@@ -1,5 +1,5 @@
 -- What the loop over the fields keeps, and the answers that it ends in.
-use Prim.Native.Nat.{ℕ, _+_, _≤_}
+use Prim.Native.Nat.{ℕ, zero, suc, _+_, _≤_}
 use mathlib.Core.Path.{_≡_, refl}
 use mathlib.Core.Logic.{_≢_}
 use mathlib.Core.Bool.{Bool, true, false, true≢false}
@@ -14,17 +14,18 @@ use Rattle.lines.specs.Lines.{Inside, Comment}
 use Rattle.fields.specs.Runs.{All}
 use Rattle.lines.specs.inner.Parts.{Between, Ran}
 use Rattle.lines.proofs.Scans.{blanks-ran}
-use Rattle.row.specs.Row.{RowFields}
+use Rattle.row.specs.Row.{RowFields, Expected, this, any}
 use Rattle.row.specs.Versions.{Version}
 use Rattle.row.specs.declared.Part.{Part}
 use Rattle.row.specs.declared.Step.{Step}
 use Rattle.row.specs.inner.Stages.{Continues, Good, EndsRow, whole, early}
+use Rattle.row.proofs.Columns.{after-number}
 use Rattle.row.proofs.Long.{number-short}
-use Rattle.row.proofs.CanEnd.{can-end}
+use Rattle.row.proofs.CanEnd.{CanEnd, can-end, row-can-end}
 use Rattle.fields.specs.Columns.{lastNumber}
 use Rattle.explain.specs.declared.Explained.{Explained}
 use Rattle.explain.specs.declared.Explained.the-variants as explained
-use Rattle.explain.specs.Explain.{row}
+use Rattle.explain.specs.Explain.{ExpectedFields, row}
 use Rattle.explain.specs.Promise.{ExplainPromise, explainNumbers, unexplained}
 use Rattle.explain.specs.Promise.{wrong as promise-wrong, early as promise-early}
 use Rattle.explain.specs.inner.Steps.{Moves, moved, stuck, FieldsBefore, FoundIn}
@@ -51,7 +52,7 @@ none-goes-on (stuck z u) _ = u
 module _ {line : List ℕ} {from at a i : ℕ} {first p : Part} (x : Going line from first p at i) (g : Ran (Between 32 32) line at a) where
   pub end-row : (b : Bool) → b ≡ true → EndsRow (p .stage) p b → a ≡ length line
       → (v k : ℕ) → FieldsBefore v k line (Continues first) from 1 → FoundIn v k line (explained.Refused 30)
-  end-row true e (whole c u) n v k y = (refl, (p .r, found-row (x .fields v k y) (blanks-ran g) n c))
+  end-row true e (whole c u) n v k y = found-row (x .fields v k y) (blanks-ran g) n c
   end-row false e d n v k y = absurd (true≢false (sym e))
 
   pub end-early : (b : Bool) → b ≡ false → EndsRow (p .stage) p b → a ≡ length line
@@ -72,15 +73,24 @@ module _ {line : List ℕ} {from at a i : ℕ} {first p : Part} (x : Going line 
     }
 
 -- The whole answer.
-module _ {line : List ℕ} {v k : ℕ} (is : Version v) (i : All Inside line) (n : Comment line → ⊥) (l : 1 ≤ k) (h : k ≤ lastNumber) where
+module _ {line : List ℕ} {v k : ℕ} (is : Version v) (i : All Inside line) (n : Comment line → ⊥) (h : k ≤ lastNumber) where
   pub promised : (x : Explained) → FoundIn v k line x → ExplainPromise line v k (explainNumbers x)
-  promised (explained.Wrong j) w = promise-wrong is (to-explain l h i n (λ r. wrong-no-row w)) w refl
-  promised (explained.Early j) w = promise-early is (to-explain l h i n (λ r. early-no-row w)) w refl
-  promised (explained.Refused m) (e, (r, q)) = unexplained is (row q) (rw e refl)
+  promised (explained.Wrong m) w = promise-wrong is (to-explain h i n (λ j r. wrong-no-row w)) w refl
+  promised (explained.Early m) w = promise-early is (to-explain h i n (λ j r. early-no-row w)) w refl
+  promised (explained.Refused m) (e, (j, r, x, q)) = unexplained is (row x q) (rw e refl)
+
+-- Where k is expected, some row can be ended: the one with that number, or, where any may stand there, that with number 1.
+
+ended-as : {v k j : ℕ} → Expected k j → CanEnd (λ fs r. RowFields v j r fs) → CanEnd (λ fs r. ExpectedFields v k r fs)
+ended-as {j = j} x o = record { fields = o .fields; r = o .r; ends = record { k = j; expected = x; row = o .ends } }
+
+pub expected-can-end : {v : ℕ} (k : ℕ) → Version v → k ≤ lastNumber → CanEnd (λ fs r. ExpectedFields v k r fs)
+expected-can-end zero is h = ended-as {j = 1} (any refl) (row-can-end is (omega arith) (omega arith))
+expected-can-end (suc n) is h = ended-as (this refl) (row-can-end is (omega arith) h)
 
 -- No row is without a field, and no row number is long.
-pub no-row-empty : {v k : ℕ} (r : Record) → RowFields v k r [] → ⊥
-no-row-empty r c = elim c [ ]
+pub no-row-empty : {v k : ℕ} (r : Record) → ExpectedFields v k r [] → ⊥
+no-row-empty r c = elim (c .row) [ ]
 
-pub no-long-number : {v k : ℕ} {f : List ℕ} → 16 ≤ length f → (fs : List (List ℕ)) (r : Record) → RowFields v k r (f ∷ fs) → ⊥
-no-long-number l fs r (RowFields.number n o) = let h = number-short n in omega arith
+pub no-long-number : {v k : ℕ} {f : List ℕ} → 16 ≤ length f → (fs : List (List ℕ)) (r : Record) → ExpectedFields v k r (f ∷ fs) → ⊥
+no-long-number l fs r c = let h = number-short (after-number (c .row) .0) in omega arith

@@ -112,34 +112,39 @@ each-take zero (then h e) = no-more
 each-take (suc n) no-more = no-more
 each-take (suc n) (then h e) = then h (each-take n e)
 
--- Some line is a row of this version and number, and begins with these fields.
-pub record SomeRow (v k : ℕ) (fs : List (List ℕ)) : Type 0 where
+-- Some line is a row of this version, with a number that may stand where e is expected, and begins with these fields.
+pub record SomeRow (v e : ℕ) (fs : List (List ℕ)) : Type 0 where
   pub line : List ℕ
+  pub k : ℕ
   pub r : Record
+  pub expected : Row.Expected e k
   pub row : Row.Row v k r line
   pub further : List (List ℕ)
   pub begins : row .fields ≡ fs ++ further
 
-pub begins-row : {v k : ℕ} {fs : List (List ℕ)} → Each NotEmpty fs → BeginsRow v k fs → SomeRow v k fs
-begins-row {v} {k} {fs} e b =
-    let w : Row.RowFields v k (b .r) (fs ++ kept (b .further)) = rw (kept-front (b .further) e) at (kept-row (b .row)) in
-    let s : Each NotEmpty (fs ++ kept (b .further)) = rw (kept-front (b .further) e) at (kept-each (fs ++ b .further)) in
+pub begins-row : {v e : ℕ} {fs : List (List ℕ)} → Each NotEmpty fs → BeginsRow v e fs → SomeRow v e fs
+begins-row {v} {fs = fs} n b =
+    let x = b .row in
+    let w : Row.RowFields v (x .k) (b .r) (fs ++ kept (b .further)) = rw (kept-front (b .further) n) at (kept-row (x .row)) in
+    let s : Each NotEmpty (fs ++ kept (b .further)) = rw (kept-front (b .further) n) at (kept-each (fs ++ b .further)) in
     let p = each-map (λ g a. all-map (λ c q. q .blank) a) (fields-plain w) in
     record {
       line = joined (fs ++ kept (b .further));
+      k = x .k;
       r = b .r;
+      expected = x .expected;
       row = record { fields = fs ++ kept (b .further); parted = parted-joined (sized s .1) p; row = w };
       further = kept (b .further);
       begins = refl;
     }
 
 -- And the other way round.
-pub row-begins : {v k : ℕ} {fs : List (List ℕ)} → SomeRow v k fs → BeginsRow v k fs
-row-begins {v} {k} s = record { further = s .further; r = s .r; row = rw (s .begins) at (s .row .row) }
+pub row-begins : {v e : ℕ} {fs : List (List ℕ)} → SomeRow v e fs → BeginsRow v e fs
+row-begins s = record { further = s .further; r = s .r; row = record { k = s .k; expected = s .expected; row = rw (s .begins) at (s .row .row) } }
 
 -- So a wrong field, and an early end, are what paper 02 says of rows.
-pub wrong-rows : {v k i : ℕ} {line : List ℕ} (w : WrongField v k line i) → SomeRow v k (take (i - 1) (w .fields)) × (SomeRow v k (take i (w .fields)) → ⊥)
+pub wrong-rows : {v e i : ℕ} {line : List ℕ} (w : WrongField v e line i) → SomeRow v e (take (i - 1) (w .fields)) × (SomeRow v e (take i (w .fields)) → ⊥)
 wrong-rows {i = i} w = (begins-row (each-take (i - 1) (parted-each (w .parted))) (w .before), λ s. w .none (row-begins s))
 
-pub early-rows : {v k i : ℕ} {line : List ℕ} (w : EndedEarly v k line i) → SomeRow v k (w .fields)
+pub early-rows : {v e i : ℕ} {line : List ℕ} (w : EndedEarly v e line i) → SomeRow v e (w .fields)
 early-rows w = begins-row (parted-each (w .parted)) (w .begins)

@@ -17,11 +17,11 @@ use Rattle.lines.specs.Lines.{Inside}
 use Rattle.lines.specs.inner.Parts.{IsBlank, Ran}
 use Rattle.lines.proofs.Scans.{split, part}
 use Rattle.row.specs.declared.Step.{Step}
-use Rattle.row.specs.Row.{RowFields, Row}
 use Rattle.row.specs.inner.Stages.{Continues}
 use Rattle.row.proofs.CanEnd.{CanEnd}
-use Rattle.explain.specs.Explain.{BeginsRow, WrongField, EndedEarly}
-use Rattle.explain.specs.inner.Steps.{Field, Moves, moved, stuck, FieldsBefore}
+use Rattle.explain.specs.declared.Explained.the-variants as explained
+use Rattle.explain.specs.Explain.{ExpectedFields, BeginsRow, WrongField, EndedEarly}
+use Rattle.explain.specs.inner.Steps.{Field, Moves, moved, stuck, FieldsBefore, FoundIn}
 
 -- Every line has fields.
 
@@ -135,9 +135,11 @@ module _ {v k : ℕ} {line : List ℕ} {at a i : ℕ} {C : List (List ℕ) → R
     none = λ r c. u r (x .onto [] r (rw append-nil c));
   }
 
-  pub found-row : {r : Record} → C [] r → Row v k r line
-  found-row {r} c = record { fields = x .front; parted = ended; row = rw append-nil at (x .back [] r c) }
+  pub found-row : {r : Record} → C [] r → FoundIn v k line (explained.Refused 30)
+  found-row {r} c =
+      let q : ExpectedFields v k r (x .front) = rw append-nil at (x .back [] r c) in
+      (refl, (q .k, r, q .expected, record { fields = x .front; parted = ended; row = q .row }))
 
 -- Before the first field.
-pub fields-none : (v k : ℕ) (line : List ℕ) → FieldsBefore v k line (λ fs r. RowFields v k r fs) 0 0
+pub fields-none : (v k : ℕ) (line : List ℕ) → FieldsBefore v k line (λ fs r. ExpectedFields v k r fs) 0 0
 fields-none v k line = record { front = []; count = refl; parted = λ fs p. p; onto = λ fs r c. c; back = λ fs r c. c }

@@ -1,4 +1,5 @@
--- It explains what the reader refused: the line of a text that `read` refuses with 7 is explained, and not refused, where the next row number is one.
+-- It explains what the reader refused: the line of a text that `read` refuses with 7 is explained, and not refused, where some row has the number that
+-- is expected next.
 use Prim.Native.Nat.{ℕ, _+_, _≤_, _<_}
 use mathlib.Core.Path.{_≡_, ap, _∙_}
 use mathlib.Core.List.{List, _∷_, _++_}
@@ -10,7 +11,7 @@ use Rattle.trace.specs.declared.Outcome.the-variants as outcome
 use Rattle.trace.specs.Trace.{Trace, Spells}
 use Rattle.trace.specs.Promise.{EndedLines, ReadPromise, readNumbers, large, done, no-room, refused}
 use Rattle.trace.proofs.Exactly.{refused-fails}
-use Rattle.trace.proofs.Fails.{Stage, RightSoFar, at-later, WrongNext, no-row, Fails}
+use Rattle.trace.proofs.Fails.{Stage, RightSoFar, at-later, nextNumber, WrongNext, no-row, Fails}
 use Rattle.explain.specs.declared.Explained.the-variants as explained
 use Rattle.explain.specs.Explain.{Unexplained, no-number, row}
 use Rattle.explain.specs.Promise.{ExplainPromise, no-version, unexplained, wrong, early}
@@ -29,7 +30,8 @@ refused-30 v x (unexplained u y e) = ap (λ (l : List ℕ). getD l 0 0) e
 refused-30 v x (wrong u n w e) = absurd (n x)
 refused-30 v x (early u n w e) = absurd (n x)
 
--- The line at this place, and the lines before it, which spell a trace: its version, and as many rows as it has records, stand before the line.
+-- The line at this place, and the lines before it, which spell a trace: its version, its first number, and as many rows as it has records, stand before
+-- the line.
 pub record RefusedRow (text : List ℕ) (place : ℕ) : Type 0 where
   pub n : ℕ
   pub at : place ≡ n + 1
@@ -41,11 +43,9 @@ pub record RefusedRow (text : List ℕ) (place : ℕ) : Type 0 where
   pub trace : Trace
   pub spelled : Spells trace front
   -- the line is explained, unless the last row number stands before it
-  pub explains : (a : List ℕ) → length (trace .records) < lastNumber → ExplainPromise line (trace .version) (1 + length (trace .records)) a
-      → getD a 0 0 ≡ 0
+  pub explains : (a : List ℕ) → nextNumber trace ≤ lastNumber → ExplainPromise line (trace .version) (nextNumber trace) a → getD a 0 0 ≡ 0
   -- behind that no line can be a row
-  pub full : (a : List ℕ) → lastNumber ≤ length (trace .records) → ExplainPromise line (trace .version) (1 + length (trace .records)) a
-      → getD a 0 0 ≡ 30
+  pub full : (a : List ℕ) → lastNumber < nextNumber trace → ExplainPromise line (trace .version) (nextNumber trace) a → getD a 0 0 ≡ 30
 
 row-refused : {text : List ℕ} {place : ℕ} → Fails text 7 place → RefusedRow text place
 row-refused f = go (f .stands) (f .stopped) (f .whole) (f .at)
@@ -61,8 +61,8 @@ row-refused f = go (f .stands) (f .stopped) (f .whole) (f .at)
       before = ls;
       trace = t;
       spelled = a;
-      explains = λ x h q. no-refusal (a .version .is) (to-explain (omega arith) (omega arith) (l .first .inside) c r) q;
-      full = λ x h q. refused-30 (a .version .is) (no-number (λ u w. omega arith)) q;
+      explains = λ x h q. no-refusal (a .version .is) (to-explain h (l .first .inside) c r) q;
+      full = λ x h q. refused-30 (a .version .is) (no-number h) q;
     }
 
 pub explains-refused : {text out a after : List ℕ} {place : ℕ} → ReadPromise text out a after → a ≡ readNumbers (outcome.Refused 7 place)

@@ -9,44 +9,47 @@ use lib.ListN.{length, take, drop, take-append-drop}
 use lib.Seq.{take-take}
 use Rattle.record.specs.declared.Record.{Record}
 use Rattle.fields.specs.Columns.{lastNumber}
+use Rattle.fields.specs.Parted.{Parted}
 use Rattle.fields.specs.Runs.{All}
 use Rattle.fields.proofs.Parts.{parted-one}
 use Rattle.lines.specs.Lines.{Inside, Comment}
-use Rattle.row.specs.Row.{RowFields, Row}
+use Rattle.row.specs.Row.{Expected, Row}
 use Rattle.row.specs.Versions.{Version}
 use Rattle.explain.specs.declared.Explained.{Explained}
 use Rattle.explain.specs.declared.Explained.the-variants as explained
-use Rattle.explain.specs.Explain.{BeginsRow, WrongField, EndedEarly, Unexplained, no-number, no-line, row, comment}
+use Rattle.explain.specs.Explain.{ExpectedFields, BeginsRow, WrongField, EndedEarly, Unexplained, no-number, no-line, row, comment}
 use Rattle.explain.specs.Promise.{ExplainPromise, explainNumbers, no-version, unexplained, wrong, early}
 
-module _ {v k : ℕ} where
+-- e is the number that is expected, and k that of a row.
+
+module _ {v e : ℕ} where
   -- What begins a row begins it with fewer fields, too.
-  pub begins-with-fewer : (n : ℕ) {fs : List (List ℕ)} → BeginsRow v k fs → BeginsRow v k (take n fs)
+  pub begins-with-fewer : (n : ℕ) {fs : List (List ℕ)} → BeginsRow v e fs → BeginsRow v e (take n fs)
   begins-with-fewer n {fs} b = record {
     further = drop n fs ++ b .further;
     r = b .r;
-    row = let e : take n fs ++ (drop n fs ++ b .further) ≡ fs ++ b .further = sym (append-assoc (take n fs) (drop n fs) (b .further)) ∙ ap (λ (l : List (List ℕ)). l ++ b .further) (take-append-drop n fs) in
-        rw e (b .row);
+    row = let q : take n fs ++ (drop n fs ++ b .further) ≡ fs ++ b .further = sym (append-assoc (take n fs) (drop n fs) (b .further)) ∙ ap (λ (l : List (List ℕ)). l ++ b .further) (take-append-drop n fs) in
+        rw q (b .row);
   }
 
-  -- A line that has a wrong field is no row, and one that ended early is none.
-  pub wrong-no-row : {line : List ℕ} {i : ℕ} {r : Record} → WrongField v k line i → Row v k r line → ⊥
-  wrong-no-row {i = i} {r = r} w q =
-      let e = parted-one (q .parted) (w .parted) in
-      let f : RowFields v k r (w .fields) = rw e at (q .row) in
-      w .none (begins-with-fewer i (record { further = []; r = r; row = rw append-nil f }))
+  -- Where a line is a row that is expected, so are its fields.
+  expected-fields : {k : ℕ} {line : List ℕ} {fs : List (List ℕ)} {r : Record} → Parted fs line → Expected e k → Row v k r line → ExpectedFields v e r fs
+  expected-fields {k = k} p x q = record { k = k; expected = x; row = rw (parted-one (q .parted) p) at (q .row) }
 
-  pub early-no-row : {line : List ℕ} {i : ℕ} {r : Record} → EndedEarly v k line i → Row v k r line → ⊥
-  early-no-row {r = r} w q = w .none r (rw (parted-one (q .parted) (w .parted)) at (q .row))
+  -- A line that has a wrong field is no row that is expected, and one that ended early is none.
+  pub wrong-no-row : {line : List ℕ} {i k : ℕ} {r : Record} → WrongField v e line i → Expected e k → Row v k r line → ⊥
+  wrong-no-row {i = i} {r = r} w x q = w .none (begins-with-fewer i (record { further = []; r = r; row = rw append-nil (expected-fields (w .parted) x q) }))
+
+  pub early-no-row : {line : List ℕ} {i k : ℕ} {r : Record} → EndedEarly v e line i → Expected e k → Row v k r line → ⊥
+  early-no-row {r = r} w x q = w .none r (expected-fields (w .parted) x q)
 
   -- Of two wrong fields none is the earlier.
-  not-earlier : {line : List ℕ} {i j : ℕ} → WrongField v k line i → WrongField v k line j → i < j → ⊥
+  not-earlier : {line : List ℕ} {i j : ℕ} → WrongField v e line i → WrongField v e line j → i < j → ⊥
   not-earlier {i = i} {j = j} p q l =
-      let e = parted-one (p .parted) (q .parted) in
       let m : i ≤ j - 1 = omega arith in
-      p .none (rw (e, ← take-take i (j - 1) (q .fields) m) (begins-with-fewer i (q .before)))
+      p .none (rw (parted-one (p .parted) (q .parted), ← take-take i (j - 1) (q .fields) m) (begins-with-fewer i (q .before)))
 
-  pub one-wrong : {line : List ℕ} {i j : ℕ} → WrongField v k line i → WrongField v k line j → i ≡ j
+  pub one-wrong : {line : List ℕ} {i j : ℕ} → WrongField v e line i → WrongField v e line j → i ≡ j
   one-wrong {i = i} {j = j} p q = go (decLt i j) (decLt j i)
     where
       go : Dec (i < j) → Dec (j < i) → i ≡ j
@@ -55,30 +58,30 @@ module _ {v k : ℕ} where
       go (no n) (no m) = omega arith
 
   -- A line that ended early has no wrong field.
-  pub not-wrong-early : {line : List ℕ} {i j : ℕ} → WrongField v k line i → EndedEarly v k line j → ⊥
+  pub not-wrong-early : {line : List ℕ} {i j : ℕ} → WrongField v e line i → EndedEarly v e line j → ⊥
   not-wrong-early {i = i} p q = p .none (rw (parted-one (p .parted) (q .parted)) (begins-with-fewer i (q .begins)))
 
-  pub one-early : {line : List ℕ} {i j : ℕ} → EndedEarly v k line i → EndedEarly v k line j → i ≡ j
+  pub one-early : {line : List ℕ} {i j : ℕ} → EndedEarly v e line i → EndedEarly v e line j → i ≡ j
   one-early p q = sym (p .count) ∙ ap length (parted-one (p .parted) (q .parted)) ∙ q .count
 
--- A line that is neither a row nor a comment is explained, where a row may have this number.
-pub to-explain : {line : List ℕ} {v k : ℕ} → 1 ≤ k → k ≤ lastNumber → All Inside line → (Comment line → ⊥) → ((r : Record) → Row v k r line → ⊥)
-    → Unexplained v k line → ⊥
-to-explain l h i c n (no-number f) = f l h
-to-explain l h i c n (no-line f) = f i
-to-explain l h i c n (row w) = n _ w
-to-explain l h i c n (comment x) = c x
+-- A line that is neither a row that is expected nor a comment is explained, where some row has the expected number.
+pub to-explain : {line : List ℕ} {v e : ℕ} → e ≤ lastNumber → All Inside line → (Comment line → ⊥)
+    → ((k : ℕ) (r : Record) → Expected e k → Row v k r line → ⊥) → Unexplained v e line → ⊥
+to-explain h i c n (no-number l) = omega arith
+to-explain h i c n (no-line f) = f i
+to-explain h i c n (row x w) = n _ _ x w
+to-explain h i c n (comment x) = c x
 
 -- One of the two reasons applies, and is given, where nothing is refused.
-pub one-applies : {line a : List ℕ} {v k : ℕ} → Version v → (Unexplained v k line → ⊥) → ExplainPromise line v k a
-    → ((i : ℕ) × WrongField v k line i × (a ≡ explainNumbers (explained.Wrong i))) ⊎ ((i : ℕ) × EndedEarly v k line i × (a ≡ explainNumbers (explained.Early i)))
+pub one-applies : {line a : List ℕ} {v e : ℕ} → Version v → (Unexplained v e line → ⊥) → ExplainPromise line v e a
+    → ((i : ℕ) × WrongField v e line i × (a ≡ explainNumbers (explained.Wrong i))) ⊎ ((i : ℕ) × EndedEarly v e line i × (a ≡ explainNumbers (explained.Early i)))
 one-applies is n (no-version u e) = absurd (u is)
 one-applies is n (unexplained u x e) = absurd (n x)
 one-applies is n (wrong {i = i} u x w e) = inl (i, w, e)
 one-applies is n (early {i = i} u x w e) = inr (i, w, e)
 
 -- One answer.
-pub one-explain : {line : List ℕ} {v k : ℕ} {a b : List ℕ} → ExplainPromise line v k a → ExplainPromise line v k b → a ≡ b
+pub one-explain : {line : List ℕ} {v e : ℕ} {a b : List ℕ} → ExplainPromise line v e a → ExplainPromise line v e b → a ≡ b
 one-explain (no-version n e) (no-version m d) = e ∙ sym d
 one-explain (no-version n e) (unexplained v u d) = absurd (n v)
 one-explain (no-version n e) (wrong v u w d) = absurd (n v)
@@ -108,6 +111,6 @@ same-numbers (explained.Refused n) (explained.Wrong j) e = let z : _≡_ {A = �
 same-numbers (explained.Refused n) (explained.Early j) e = let z : _≡_ {A = ℕ} 0 2 = cc in absurd (omega arith)
 same-numbers (explained.Refused n) (explained.Refused m) e = let z : n ≡ m = cc in cc
 
-pub same-explained : {line : List ℕ} {v k : ℕ} (x y : Explained) → ExplainPromise line v k (explainNumbers x) → ExplainPromise line v k (explainNumbers y)
+pub same-explained : {line : List ℕ} {v e : ℕ} (x y : Explained) → ExplainPromise line v e (explainNumbers x) → ExplainPromise line v e (explainNumbers y)
     → x ≡ y
 same-explained x y p q = same-numbers x y (one-explain p q)

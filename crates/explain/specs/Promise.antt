@@ -13,7 +13,7 @@ explainNumbers (explained.Wrong i) = 0 ∷ 0 ∷ 1 ∷ i ∷ []
 explainNumbers (explained.Early i) = 0 ∷ 0 ∷ 2 ∷ i ∷ []
 explainNumbers (explained.Refused n) = n ∷ 0 ∷ 0 ∷ 0 ∷ []
 
--- `explain` of a line as the row with this number in this version gives the numbers a.
+-- `explain` of a line as the row with this number in this version, or with any where the number is 0, gives the numbers a.
 pub data ExplainPromise (line : List ℕ) (version number : ℕ) (a : List ℕ) : Type 0 where
   -- the version is none
   no-version : (Version version → ⊥) → a ≡ explainNumbers (explained.Refused 21) → ExplainPromise line version number a

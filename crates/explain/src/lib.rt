@@ -10,6 +10,7 @@ use lines::run_end;
 use row::Part;
 use row::Step;
 use row::is_version;
+use row_reader::expected_number;
 use row_reader::no_window;
 use row_reader::window;
 use stages::complete;
@@ -25,9 +26,9 @@ ghost use Rattle.fields.specs.Runs.{All};
 ghost use Rattle.fields.specs.inner.Window.{windowBytes};
 ghost use Rattle.lines.specs.Lines.{Inside, Comment};
 ghost use Rattle.lines.specs.inner.Parts.{Ran};
-ghost use Rattle.row.specs.Row.{RowFields};
 ghost use Rattle.row.specs.Versions.{Version};
 ghost use Rattle.row.specs.inner.Stages.{Continues, Good};
+ghost use Rattle.explain.specs.Explain.{ExpectedFields};
 ghost use Rattle.explain.specs.Promise.{ExplainPromise, explainNumbers};
 ghost use Rattle.explain.specs.inner.Steps.{Field, Moves, FieldsBefore, FoundIn};
 
@@ -77,10 +78,11 @@ fn field_end(line: &[u8], at: usize) -> usize
 // What the first field makes of a row that is expected.
 fn first(f: &[u8], version: u64, number: u64, w: &mut [u8; WINDOW]) -> Step
     requires { ⌜ Field (now f) × (length (now f) < windowBytes) × Version version ⌝ }
-    ensures { λ t. ⌜ Moves (λ fs r. RowFields version number r fs) (now (f .entry)) t ⌝ }
+    ensures { λ t. ⌜ Moves (λ fs r. ExpectedFields version number r fs) (now (f .entry)) t ⌝ }
 {
     window(f, w);
-    take_number(w, 0, version, number)
+    let k = expected_number(w, 0, number);
+    take_number(w, 0, version, k)
 }
 
 // What a later field makes of a state. One that is too long for any other is a word, and its first bytes are one, too.
@@ -135,7 +137,7 @@ fn explain_fields(
 
 // Takes all fields, the row number first.
 fn explain_row(line: &[u8], version: u64, number: u64) -> Explained
-    requires { ⌜ All Inside (now line) × Version version × (1 ≤ number) × (number ≤ lastNumber) ⌝ }
+    requires { ⌜ All Inside (now line) × Version version × (number ≤ lastNumber) ⌝ }
     ensures { λ x. ⌜ FoundIn version number (now (line .entry)) x ⌝ }
 {
     let a = run_end(line, 0, b' ', b' ');
@@ -156,15 +158,12 @@ fn explain_row(line: &[u8], version: u64, number: u64) -> Explained
     explain_fields(line, e, part, &mut w, &hex)
 }
 
-// Explains a line that was to be the row with this number in this version.
+// Explains a line that was to be the row with this number in this version, or with any number where that is 0.
 pub fn explain(line: &[u8], version: u64, number: u64) -> Explained
     ensures { λ x. ⌜ ExplainPromise (now (line .entry)) version number (explainNumbers x) ⌝ }
 {
     if !is_version(version) {
         return Explained::Refused(21);
-    }
-    if number == 0 {
-        return Explained::Refused(30);
     }
     if LAST_NUMBER < number {
         return Explained::Refused(30);

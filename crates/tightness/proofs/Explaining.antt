@@ -11,6 +11,7 @@ use Rattle.digits.specs.Digits.{DecimalDigit, Digits, more}
 use Rattle.fields.specs.Columns.{Capital, typeRx}
 use Rattle.fields.specs.Parted.{Parted}
 use Rattle.fields.specs.Runs.{All}
+use Rattle.fields.proofs.Parts.{parted-one}
 use Rattle.record.specs.declared.Record.{Record}
 use Rattle.row.specs.Row
 use Rattle.row.specs.Versions.{Version}
@@ -46,16 +47,24 @@ module _ {line : List ℕ} {v k : ℕ} where
     pub comment-explained : {s : List ℕ} → Comment line → ExplainPromise line v k (0 ∷ s) → ⊥
     comment-explained c p = omega (arith, refused-30 is (comment c) p)
 
-    pub row-explained : {s : List ℕ} {r : Record} → Row.Row v k r line → ExplainPromise line v k (0 ∷ s) → ⊥
-    row-explained w p = omega (arith, refused-30 is (row w) p)
+    pub row-explained : {s : List ℕ} {j : ℕ} {r : Record} → Row.Expected k j → Row.Row v j r line → ExplainPromise line v k (0 ∷ s) → ⊥
+    row-explained x w p = omega (arith, refused-30 is (row x w) p)
 
     -- a line refused for anything else, such as its length
     pub refused-for-its-length : {n : ℕ} {s : List ℕ} → (Unexplained v k line → ⊥) → n ≢ 0 → ExplainPromise line v k (n ∷ s) → ⊥
     refused-for-its-length u d p = d (no-refusal is u p)
 
+-- 0 taken for 1: the number of a first row called wrong, where some row of any number begins with it
+pub zero-as-one : {line f : List ℕ} {fs : List (List ℕ)} {v p : ℕ} → Parted (f ∷ fs) line → BeginsRow v 0 (f ∷ []) → ExplainPromise line v 0 (0 ∷ p ∷ 1 ∷ 1 ∷ [])
+    → ⊥
+zero-as-one h b (no-version u e) = let z : _≡_ {A = ℕ} 0 21 = cc in omega arith
+zero-as-one h b (unexplained u x e) = let z : _≡_ {A = ℕ} 0 30 = cc in omega arith
+zero-as-one {f = f} {fs = fs} {v = v} h b (wrong {i = i} u x w e) = let z : i ≡ 1 = cc in w .none (rw (parted-one (w .parted) h, z) b)
+zero-as-one h b (early u x w e) = let z : _≡_ {A = ℕ} 1 2 = cc in omega arith
+
 -- Behind some fields of a line stands one with which no row goes on: that is the wrong one.
 behind : {line : List ℕ} {v k : ℕ} (fs : List (List ℕ)) (f : List ℕ) (gs : List (List ℕ)) → Parted (fs ++ (f ∷ gs)) line → BeginsRow v k fs
-    → ((r : Record) (hs : List (List ℕ)) → Row.RowFields v k r (fs ++ (f ∷ hs)) → ⊥) → WrongField v k line (length fs + 1)
+    → ((j : ℕ) (r : Record) (hs : List (List ℕ)) → Row.RowFields v j r (fs ++ (f ∷ hs)) → ⊥) → WrongField v k line (length fs + 1)
 behind {v = v} {k = k} fs f gs p b n =
     let z : length fs + 1 - 1 ≡ length fs = omega arith in
     let m : length (fs ++ (f ∷ [])) ≡ length fs + 1 = length-append fs (f ∷ []) in
@@ -68,13 +77,13 @@ behind {v = v} {k = k} fs f gs p b n =
       before = rw (z, take-at fs (f ∷ gs) (length fs) refl) b;
       none = λ c.
           let d : BeginsRow v k (fs ++ (f ∷ [])) = rw q at c in
-          n (d .r) (d .further) (rw (append-assoc fs (f ∷ []) (d .further)) at (d .row));
+          n (d .row .k) (d .r) (d .further) (rw (append-assoc fs (f ∷ []) (d .further)) at (d .row .row));
     }
 
 -- the columns of 1.1 for a line of 1.2: a type where the bus must stand is wrong field 3
 pub columns-of-11 : {line : List ℕ} {k i p q : ℕ} {a b : List ℕ} {fs : List (List ℕ)} → Parted (a ∷ b ∷ typeRx ∷ fs) line
     → BeginsRow 12 k (a ∷ b ∷ []) → i ≢ 3 → ExplainPromise line 12 k (0 ∷ p ∷ q ∷ i ∷ []) → ⊥
-columns-of-11 {a = a} {b = b} {fs = fs} h g d = another-field (behind (a ∷ b ∷ []) typeRx fs h g (λ r hs. no-type)) (λ e. d (sym e))
+columns-of-11 {a = a} {b = b} {fs = fs} h g d = another-field (behind (a ∷ b ∷ []) typeRx fs h g (λ j r hs. no-type)) (λ e. d (sym e))
   where
     digit : {n : ℕ} → Digits DecimalDigit 10 typeRx n → ⊥
     digit (more x y e) = omega (arith, x .byte, x .value)
@@ -112,11 +121,12 @@ module _ {r q : Record} (four : r .kind ≡ 4) (f : List ℕ) (hs : List (List �
   bus-behind (Row.no-bus e t) (Row.no-bus d u) = type-behind t u
   bus-behind (Row.bus e t) (Row.bus d u) = type-behind t u
 
-  row-behind : {v k : ℕ} {fs : List (List ℕ)} → Row.RowFields v k r fs → Row.RowFields v k q (fs ++ (f ∷ hs)) → All Capital f
+  row-behind : {v k j : ℕ} {fs : List (List ℕ)} → Row.RowFields v k r fs → Row.RowFields v j q (fs ++ (f ∷ hs)) → All Capital f
   row-behind (Row.number n (Row.offset is o b)) (Row.number m (Row.offset is′ o′ c)) = bus-behind b c
 
-pub small-letter-taken : {line : List ℕ} {v k i p q : ℕ} {r : Record} (fs : List (List ℕ)) (f : List ℕ) (gs : List (List ℕ))
-    → Parted (fs ++ (f ∷ gs)) line → Row.RowFields v k r fs → r .kind ≡ 4 → (All Capital f → ⊥) → i ≢ length fs + 1
+pub small-letter-taken : {line : List ℕ} {v k j i p q : ℕ} {r : Record} (fs : List (List ℕ)) (f : List ℕ) (gs : List (List ℕ))
+    → Parted (fs ++ (f ∷ gs)) line → Row.Expected k j → Row.RowFields v j r fs → r .kind ≡ 4 → (All Capital f → ⊥) → i ≢ length fs + 1
     → ExplainPromise line v k (0 ∷ p ∷ q ∷ i ∷ []) → ⊥
-small-letter-taken {r = r} fs f gs h w four n d =
-    another-field (behind fs f gs h (record { further = []; r = r; row = rw append-nil w }) (λ s hs c. n (row-behind four f hs w c))) (λ e. d (sym e))
+small-letter-taken {v = v} {k = k} {j = j} {r = r} fs f gs h x w four n d =
+    let b : BeginsRow v k fs = record { further = []; r = r; row = record { k = j; expected = x; row = rw append-nil w } } in
+    another-field (behind fs f gs h b (λ m s hs c. n (row-behind four f hs w c))) (λ e. d (sym e))

@@ -1,13 +1,14 @@
 -- Answers in which the line or the record is lost, or one is given where there is none: each is refuted over the promise, for every input. The
 -- boundary to C promises the same numbers.
 use Prim.Native.Nat.{ℕ, suc, _≤_}
-use mathlib.Core.Path.{_≡_}
+use mathlib.Core.Path.{_≡_, refl, sym}
 use mathlib.Core.List.{List, [], _∷_}
 use native.Mathlib.Omega.{arith}
 use Rattle.record.specs.declared.Record.{Record}
 use Rattle.record.specs.Promise as single
 use Rattle.trace.specs.Promise as reading
 use Rattle.trace_writer.specs.Promise as writing
+use Rattle.trace_writer.proofs.Answers.{stopped-numbers}
 use Rattle.ascii.specs.Promise as exporting
 
 -- read: 2 to 7 are given with a line
@@ -22,38 +23,48 @@ refused-at (reading.dollar n b d) = omega arith
 refused-at (reading.no-row n b d) = omega arith
 
 pub line-lost : {text before after : List ℕ} (n : ℕ) → 2 ≤ n → n ≤ 7
-    → reading.ReadPromise text before (n ∷ 0 ∷ 0 ∷ 0 ∷ 0 ∷ 0 ∷ []) after → ⊥
+    → reading.ReadPromise text before (n ∷ 0 ∷ 0 ∷ 0 ∷ 0 ∷ 0 ∷ 0 ∷ []) after → ⊥
 line-lost n a b (reading.large l e u) = let z : n ≡ 1 = cc in omega arith
 line-lost n a b (reading.done l s r e u) = let z : n ≡ 0 = cc in omega arith
 line-lost n a b (reading.no-room l s r e u) = let z : n ≡ 8 = cc in omega arith
 line-lost n a b (reading.refused {p = p} l r e u) = let z : 0 ≡ p = cc in omega (arith, refused-at r)
 
 -- write: 23 and 24 are given with a record, and what is written is counted behind the place
-pub stopped-number : {version start n p : ℕ} {s : List ℕ} → writing.WriteStopped version start s n p → 20 ≤ n
-stopped-number (writing.no-records w) = omega arith
-stopped-number (writing.no-version w v) = omega arith
-stopped-number (writing.late w v l) = omega arith
-stopped-number (writing.malformed w v l f) = omega arith
-stopped-number (writing.misfit w v l h f) = omega arith
+stopped-at : {version start first n p : ℕ} {s : List ℕ} → writing.WriteStopped version start first s n p → 23 ≤ n → n ≤ 24 → 1 ≤ p
+stopped-at (writing.no-records w) h k = absurd (omega arith)
+stopped-at (writing.no-version w v) h k = absurd (omega arith)
+stopped-at (writing.late w v l) h k = absurd (omega arith)
+stopped-at (writing.no-number w v l f) h k = absurd (omega arith)
+stopped-at (writing.malformed w v l n f) h k = omega (arith, f .at)
+stopped-at (writing.misfit w v l n h f) i k = omega (arith, f .at)
 
-stopped-at : {version start n p : ℕ} {s : List ℕ} → writing.WriteStopped version start s n p → 23 ≤ n → 1 ≤ p
-stopped-at (writing.no-records w) h = absurd (omega arith)
-stopped-at (writing.no-version w v) h = absurd (omega arith)
-stopped-at (writing.late w v l) h = absurd (omega arith)
-stopped-at (writing.malformed w v l f) h = omega (arith, f .at)
-stopped-at (writing.misfit w v l h f) i = omega (arith, f .at)
+stopped-nowhere : {version start first n p : ℕ} {s : List ℕ} → writing.WriteStopped version start first s n p → n ≡ 26 → p ≡ 0
+stopped-nowhere (writing.no-records w) h = refl
+stopped-nowhere (writing.no-version w v) h = refl
+stopped-nowhere (writing.late w v l) h = refl
+stopped-nowhere (writing.no-number w v l f) h = refl
+stopped-nowhere (writing.malformed w v l n f) h = absurd (omega arith)
+stopped-nowhere (writing.misfit w v l n g f) h = absurd (omega arith)
 
-pub record-lost : {version start : ℕ} {s before after : List ℕ} (n : ℕ) → 23 ≤ n → n ≤ 24
-    → writing.WritePromise version start s before (n ∷ 0 ∷ 0 ∷ []) after → ⊥
-record-lost n a b (writing.refused {n = m} {p = p} t e u) = let y : n ≡ m = cc in let z : 0 ≡ p = cc in omega (arith, stopped-at t (omega arith))
+pub record-lost : {version start first : ℕ} {s before after : List ℕ} (n : ℕ) → 23 ≤ n → n ≤ 24
+    → writing.WritePromise version start first s before (n ∷ 0 ∷ 0 ∷ []) after → ⊥
+record-lost n a b (writing.refused {n = m} {p = p} t e u) = let y : n ≡ m = cc in let z : 0 ≡ p = cc in omega (arith, stopped-at t (omega arith) (omega arith))
 record-lost n a b (writing.no-room w s r e u) = let z : n ≡ 25 = cc in omega arith
 record-lost n a b (writing.done w s r e u) = let z : n ≡ 0 = cc in omega arith
 
-pub bytes-as-place : {version start bytes n : ℕ} {s before after : List ℕ} → writing.WritePromise version start s before (0 ∷ suc bytes ∷ n ∷ []) after
-    → ⊥
-bytes-as-place (writing.refused {n = m} t e u) = let z : 0 ≡ m = cc in omega (arith, stopped-number t)
+pub bytes-as-place : {version start first bytes n : ℕ} {s before after : List ℕ}
+    → writing.WritePromise version start first s before (0 ∷ suc bytes ∷ n ∷ []) after → ⊥
+bytes-as-place (writing.refused {n = m} t e u) = let z : 0 ≡ m = cc in omega (arith, stopped-numbers t .0)
 bytes-as-place (writing.no-room w s r e u) = let z : _≡_ {A = ℕ} 0 25 = cc in omega arith
 bytes-as-place {bytes = bytes} (writing.done w s r e u) = let z : suc bytes ≡ 0 = cc in omega arith
+
+-- 26 is given with none
+pub number-at-a-record : {version start first p n : ℕ} {s before after : List ℕ} → writing.WritePromise version start first s before (26 ∷ suc p ∷ n ∷ []) after
+    → ⊥
+number-at-a-record {p = p} (writing.refused {n = m} {p = q} t e u) =
+    let y : 26 ≡ m = cc in let z : suc p ≡ q = cc in omega (arith, stopped-nowhere t (sym y))
+number-at-a-record (writing.no-room w s r e u) = let z : _≡_ {A = ℕ} 26 25 = cc in omega arith
+number-at-a-record (writing.done w s r e u) = let z : _≡_ {A = ℕ} 26 0 = cc in omega arith
 
 -- export: 23 is given with a record
 exported-at : {start n p : ℕ} {s : List ℕ} → exporting.ExportStopped start s n p → 23 ≤ n → 1 ≤ p

@@ -18,8 +18,8 @@ use Rattle.trace.proofs.Answers.{not-refused}
 use Rattle.trace.proofs.One.{one-trace}
 use Rattle.trace.proofs.There.{there, there-size}
 use Rattle.tightness.specs.Programs.{Lent, Reader, KeepsRead}
-use Rattle.tightness.specs.Wrong.{RefusesAll, SameVersion, SameStart, SameRecords, CopiesFirst, InventsRows}
-use Rattle.tightness.specs.Tight.{HandsOut, received12, Tried, empty, later, older, two, copied}
+use Rattle.tightness.specs.Wrong.{RefusesAll, SameVersion, SameStart, SameFirst, SameRecords, CopiesFirst, InventsRows, SaysOne}
+use Rattle.tightness.specs.Tight.{HandsOut, received12, Tried, empty, later, older, two, copied, middle}
 use Rattle.tightness.proofs.Tried.{received-formed, writable, zeros, textOf}
 
 -- What spells a trace is accepted, and that trace handed out.
@@ -35,6 +35,7 @@ accepts {f} {t} k text out h s r =
       version = cc (z .0);
       start = cc (z .0);
       rows = n;
+      first = cc (z .0);
       records = ap (take (20 * f text out .rows)) (z .1) ∙ take-at (packed rs) (drop (20 * length rs) (out .list)) (20 * f text out .rows) l;
     }
 
@@ -45,6 +46,7 @@ room later = omega arith
 room older = omega arith
 room two = omega arith
 room copied = omega arith
+room middle = omega arith
 
 -- Two records that differ are packed as other bytes.
 apart : bytes 20 (number (received12 0 2)) ≡ bytes 20 (number (received12 0 1)) → ⊥
@@ -56,12 +58,12 @@ copy : {s : List ℕ} (r q : Record) → s ≡ packed (r ∷ q ∷ []) → take 
 copy r q e h =
     sym (first-packed q []) ∙ ap (take 20) (sym (rest-packed r (q ∷ []))) ∙ (rw e at h) ∙ first-packed r (q ∷ [])
 
-rows-true : {text before x : List ℕ} {n p v s k b : ℕ} {t : Trace} → ReadPromise text before (n ∷ p ∷ v ∷ s ∷ k ∷ b ∷ []) x → n ≡ 0
+rows-true : {text before x : List ℕ} {n p v s k b f : ℕ} {t : Trace} → ReadPromise text before (n ∷ p ∷ v ∷ s ∷ k ∷ b ∷ f ∷ []) x → n ≡ 0
     → Spells t text → k ≡ length (t .records)
 rows-true (ReadPromise.large h e q) z s = let d : _≡_ {A = ℕ} 0 1 = cc in absurd (omega arith)
 rows-true (ReadPromise.done h u r e q) z s = cc (e, ap (λ (t : Trace). length (t .records)) (one-trace u s))
 rows-true (ReadPromise.no-room h u r e q) z s = let d : _≡_ {A = ℕ} 0 8 = cc in absurd (omega arith)
-rows-true (ReadPromise.refused h f e q) z s = absurd (not-refused h s f)
+rows-true (ReadPromise.refused h g e q) z s = absurd (not-refused h s g)
 
 module _ {f : Reader} (k : KeepsRead f) where
   tries : {t : Trace} (w : Tried t) → HandsOut t (f (textOf w) (zeros 40))
@@ -81,6 +83,17 @@ module _ {f : Reader} (k : KeepsRead f) where
       let a = tries empty in
       let b = tries later in
       omega (arith, a .start, b .start, h (textOf empty) (textOf later) (zeros 40) (a .accepted) (b .accepted))
+
+  pub same-first : SameFirst f → ⊥
+  same-first h =
+      let a = tries two in
+      let b = tries middle in
+      omega (arith, a .first, b .first, h (textOf two) (textOf middle) (zeros 40) (a .accepted) (b .accepted))
+
+  pub says-one : SaysOne f → ⊥
+  says-one h =
+      let a = tries middle in
+      omega (arith, a .first, h (textOf middle) (zeros 40) (a .accepted) (omega (arith, a .rows)))
 
   pub same-records : SameRecords f → ⊥
   same-records h =

@@ -13,6 +13,7 @@ use Rattle.records.proofs.Packing.{packed-length}
 use Rattle.trace.specs.Trace.{Trace}
 use Rattle.trace.specs.Promise.{ReadPromise}
 use Rattle.trace.specs.House.{traceText, Writable}
+use Rattle.trace.proofs.Numbers.{rows-numbered}
 use Rattle.trace.proofs.There.{there, there-size}
 use Rattle.trace_writer.specs.Promise.{WritePromise}
 use Rattle.ascii.specs.Promise.{Exports, none, line, left, lineCount, leftCount, ExportPromise}
@@ -28,7 +29,7 @@ some-export start (r ∷ rs) =
     elim (decLt 1 (r .kind)) [ yes h ↦ (text, left h e) | no h ↦ (_, line {r = r} (omega arith) (some-stamp start (r .offset) .1) e) ]
 
 whole : {t : Trace} → Writable t → Whole (packed (t .records))
-whole {t} w = let l = packed-length (t .records) in record { twenties = omega arith; few = omega (arith, w .few) }
+whole {t} w = let l = packed-length (t .records) in record { twenties = omega arith; few = omega (arith, rows-numbered (w .numbered)) }
 
 pub real : {t : Trace} → Tried t → Real t
 real {t} h =
@@ -47,6 +48,7 @@ real {t} h =
           start = t .start;
           rows = length rs;
           back = stepBack rs;
+          first = t .first;
           after = packed rs ++ drop (20 * length rs) (out .list);
         },
         refl,

@@ -23,12 +23,12 @@ no-refusal : {a rest before after : List ℕ} → a ≡ 0 ∷ rest → Touched a
 no-refusal e t = t .refused (ap (λ (l : List ℕ). getD l 0 0) e)
 
 pub read-quiet : {text before a after : List ℕ} → ReadPromise text before a after → Touched a before after → ⊥
-read-quiet (ReadPromise.large h e q) = refusal 4 e q
+read-quiet (ReadPromise.large h e q) = refusal 5 e q
 read-quiet (ReadPromise.done h s r e q) = no-refusal e
-read-quiet (ReadPromise.no-room h s r e q) = refusal 4 e q
-read-quiet (ReadPromise.refused h f e q) = refusal 4 e q
+read-quiet (ReadPromise.no-room h s r e q) = refusal 5 e q
+read-quiet (ReadPromise.refused h f e q) = refusal 5 e q
 
-pub write-quiet : {version start : ℕ} {s before a after : List ℕ} → WritePromise version start s before a after → Touched a before after → ⊥
+pub write-quiet : {version start first : ℕ} {s before a after : List ℕ} → WritePromise version start first s before a after → Touched a before after → ⊥
 write-quiet (WritePromise.refused f e q) = refusal 1 e q
 write-quiet (WritePromise.no-room w i l e q) = refusal 1 e q
 write-quiet (WritePromise.done w i l e q) = no-refusal e

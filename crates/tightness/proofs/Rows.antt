@@ -1,4 +1,4 @@
--- Wrong answers of `row_in`, `read_row` and `window`: each is refuted over what they promise, for every line to which it applies.
+-- Wrong answers of `row_in`, `read_row`, `expected_number` and `window`: each is refuted over what they promise, for every line to which it applies.
 use Prim.Native.Nat.{ℕ, _+_, _*_, _/_, _%_, _^_, _≤_, _<_}
 use mathlib.Core.Path.{_≡_, refl, ap, sym, _∙_}
 use mathlib.Core.Logic.{_≢_, _⊎_, inl, inr}
@@ -18,7 +18,8 @@ use Rattle.row.specs.Row
 use Rattle.row.proofs.Formed.{bytes-sum, row-formed}
 use Rattle.lines.specs.Lines.{lineLimit}
 use Rattle.row_reader.specs.declared.Reading.the-variants.{Is}
-use Rattle.row_reader.specs.inner.Answer.{ReadsRow, RowFound, row-found, no-row}
+use Rattle.row_reader.specs.inner.Answer.{ReadsRow, RowFound, row-found, no-row, NumberOf}
+use Rattle.row_reader.proofs.Numbers.{number-of}
 use Rattle.tightness.proofs.Lines.{eight-digits-standard}
 
 -- a line of more than 250 bytes, read
@@ -29,6 +30,17 @@ long-line-read h p = omega (arith, p .0)
 pub row-refused : {v k at : ℕ} {r : Record} {line out : List ℕ} → Row.Row v k r line → RowFound v k at line out 0 → ⊥
 row-refused w (row-found x o e) = omega arith
 row-refused w (no-row e f) = f _ w
+
+-- another number than the one that is expected, and, where any is, than that of the row which stands there, as 1 for 4117
+pub another-expected : {e k : ℕ} {line : List ℕ} → e ≢ 0 → k ≢ e → NumberOf e line k → ⊥
+another-expected n d p = go n d (p .expected)
+  where
+    go : {e k : ℕ} → e ≢ 0 → k ≢ e → Row.Expected e k → ⊥
+    go n d (Row.this q) = d (sym q)
+    go n d (Row.any z) = n z
+
+pub another-first : {v j k : ℕ} {r : Record} {line : List ℕ} → Row.Row v j r line → k ≢ j → NumberOf 0 line k → ⊥
+another-first w d p = d (sym (number-of p w (Row.any refl)))
 
 -- A row was found: its record's fields stand in `out`.
 found : {v k at e : ℕ} {line out : List ℕ} → RowFound v k at line out e → e ≢ 0 → (r : Record) × Row.Row v k r line × (out ≡ fieldsOf r)

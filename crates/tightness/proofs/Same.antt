@@ -4,11 +4,11 @@ use mathlib.Core.Path.{_≡_}
 use Rattle.trace.proofs.Answers.{one-read}
 use Rattle.trace_writer.proofs.Answers.{one-write}
 use Rattle.ascii.proofs.Answers.{one-export}
-use Rattle.tightness.specs.Programs.{Lent, FromReader, Reader, six, KeepsRead, FromWriter, Writer, three, KeepsWrite, FromExporter, Exporter, five, KeepsExport}
+use Rattle.tightness.specs.Programs.{Lent, FromReader, Reader, seven, KeepsRead, FromWriter, Writer, three, KeepsWrite, FromExporter, Exporter, five, KeepsExport}
 
 -- The numbers and the output are all that a program gives.
 
-same-read : (a b : FromReader) → (six a ≡ six b) × (a .after ≡ b .after) → a ≡ b
+same-read : (a b : FromReader) → (seven a ≡ seven b) × (a .after ≡ b .after) → a ≡ b
 same-read a b (e, q) =
     let n : a .number ≡ b .number = cc in
     let p : a .place ≡ b .place = cc in
@@ -16,7 +16,8 @@ same-read a b (e, q) =
     let s : a .start ≡ b .start = cc in
     let r : a .rows ≡ b .rows = cc in
     let k : a .back ≡ b .back = cc in
-    λ i. record { number = n i; place = p i; version = v i; start = s i; rows = r i; back = k i; after = q i }
+    let f : a .first ≡ b .first = cc in
+    λ i. record { number = n i; place = p i; version = v i; start = s i; rows = r i; back = k i; first = f i; after = q i }
 
 same-written : (a b : FromWriter) → (three a ≡ three b) × (a .after ≡ b .after) → a ≡ b
 same-written a b (e, q) =
@@ -37,10 +38,10 @@ same-exported a b (e, q) =
 pub one-reader : {f g : Reader} → KeepsRead f → KeepsRead g → (text out : Lent) → f text out ≡ g text out
 one-reader {f} {g} k j text out = same-read (f text out) (g text out) (one-read (k .keeps text out) (j .keeps text out))
 
-pub one-writer : {f g : Writer} → KeepsWrite f → KeepsWrite g → (version start : ℕ) (records out : Lent)
-    → f version start records out ≡ g version start records out
-one-writer {f} {g} k j version start records out =
-    same-written (f version start records out) (g version start records out) (one-write (k .keeps version start records out) (j .keeps version start records out))
+pub one-writer : {f g : Writer} → KeepsWrite f → KeepsWrite g → (version start first : ℕ) (records out : Lent)
+    → f version start first records out ≡ g version start first records out
+one-writer {f} {g} k j version start first records out =
+    same-written (f version start first records out) (g version start first records out) (one-write (k .keeps version start first records out) (j .keeps version start first records out))
 
 pub one-exporter : {f g : Exporter} → KeepsExport f → KeepsExport g → (start : ℕ) (records out : Lent) → f start records out ≡ g start records out
 one-exporter {f} {g} k j start records out =

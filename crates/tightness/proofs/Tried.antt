@@ -18,11 +18,11 @@ use Rattle.record.proofs.Frames.{frame-formed}
 use Rattle.records.specs.Records.{packed, none, more}
 use Rattle.row.specs.House.{numberText, offsetText, busTexts, typeText, idText, dataTexts, rowTexts}
 use Rattle.row.specs.Versions.{Version, is11, is12, Carries, v12}
-use Rattle.trace.specs.Trace.{Trace, AreBytes, traceOf}
+use Rattle.trace.specs.Trace.{Trace, no-rows, some-rows, AreBytes, traceOf}
 use Rattle.trace.specs.House.{versionLineText, fractionOfDay, startLineText, rowsText, traceText, Writable}
 use Rattle.trace.proofs.Beginnings.{tested, are-bytes}
 use Rattle.tightness.specs.Programs.{Lent}
-use Rattle.tightness.specs.Tight.{received12, Tried, empty, later, older, two, copied}
+use Rattle.tightness.specs.Tight.{received12, Tried, empty, later, older, two, copied, middle}
 
 -- They can be written.
 
@@ -30,17 +30,17 @@ pub received-formed : (offset id : ℕ) → offset ≤ offsetLimit → id ≤ 0x
 received-formed offset id o i =
     frame-formed _ (omega arith) o (omega arith) (omega arith) (λ e. i) (omega arith) (omega arith) (omega arith) refl (λ e. refl)
 
-none-writable : {version start : ℕ} → Version version → start ≤ startLimit → Writable (traceOf version start [])
-none-writable v l = record { version = v; start = l; few = omega arith; formed = none; carried = none }
+none-writable : {version start : ℕ} → Version version → start ≤ startLimit → Writable (traceOf version start 0 [])
+none-writable v l = record { version = v; start = l; numbered = no-rows refl refl; formed = none; carried = none }
 
 pub received-carried : (offset id : ℕ) → Carries (received12 offset id) 12
 received-carried offset id = v12 (omega arith) (omega arith)
 
-two-writable : (id : ℕ) → id ≤ 0x7FF → Writable (traceOf 12 0 (received12 0 1 ∷ received12 0 id ∷ []))
-two-writable id h = record {
+two-writable : (first id : ℕ) → 1 ≤ first → first ≤ 999998 → id ≤ 0x7FF → Writable (traceOf 12 0 first (received12 0 1 ∷ received12 0 id ∷ []))
+two-writable first id l u h = record {
   version = is12;
   start = omega arith;
-  few = omega arith;
+  numbered = some-rows (omega arith) l (omega arith);
   formed = more (received-formed 0 1 (omega arith) (omega arith)) (more (received-formed 0 id (omega arith) h) none);
   carried = more (received-carried 0 1) (more (received-carried 0 id) none);
 }
@@ -49,8 +49,9 @@ pub writable : {t : Trace} → Tried t → Writable t
 writable empty = none-writable is12 (omega arith)
 writable later = none-writable is12 (omega arith)
 writable older = none-writable is11 (omega arith)
-writable two = two-writable 2 (omega arith)
-writable copied = two-writable 1 (omega arith)
+writable two = two-writable 1 2 (omega arith) (omega arith) (omega arith)
+writable copied = two-writable 1 1 (omega arith) (omega arith) (omega arith)
+writable middle = two-writable 4117 2 (omega arith) (omega arith) (omega arith)
 
 -- Bytes: so many zeros, packed records, and, computed, the house spelling of each trace.
 
@@ -76,6 +77,7 @@ text-tested later = tt
 text-tested older = tt
 text-tested two = tt
 text-tested copied = tt
+text-tested middle = tt
 
 pub text-small : {t : Trace} → Tried t → AreBytes (traceText t)
 text-small {t} w = are-bytes (traceText t) (text-tested w)

@@ -14,12 +14,12 @@ use Rattle.trace.specs.Promise.{ReadPromise}
 use Rattle.trace.proofs.HouseTexts.{trace-text, version-line}
 use Rattle.trace.proofs.There.{one-house}
 use Rattle.trace_writer.specs.declared.Written.the-variants as answer
-use Rattle.trace_writer.specs.Promise.{writeNumbers, WriteStopped, WritePromise}
-use Rattle.trace_writer.proofs.Answers.{writes}
+use Rattle.trace_writer.specs.Promise.{writeNumbers, WritePromise}
+use Rattle.trace_writer.proofs.Answers.{stopped-numbers, writes}
 use Rattle.trace_writer.proofs.Again.{back}
-use Rattle.tightness.specs.Programs.{Lent, FromReader, FromWriter, Reader, six, KeepsRead, Writer, KeepsWrite, writtenText}
-use Rattle.tightness.specs.Wrong.{RefusesWritten, DoesNothing, WritesFirst}
-use Rattle.tightness.specs.Tight.{HandsOut, received12, Tried, empty, two, copied}
+use Rattle.tightness.specs.Programs.{Lent, FromReader, FromWriter, Reader, seven, KeepsRead, Writer, KeepsWrite, writtenText}
+use Rattle.tightness.specs.Wrong.{RefusesWritten, DoesNothing, WritesFirst, NumbersFromOne}
+use Rattle.tightness.specs.Tight.{HandsOut, received12, Tried, empty, two, copied, middle}
 use Rattle.tightness.proofs.Tried.{writable, zeros, recordsOf, textOf}
 
 -- What can be written is written.
@@ -32,24 +32,17 @@ record Puts (t : Trace) (before : List ℕ) (a : FromWriter) : Type 0 where
 semicolon : (t : Trace) (rest : List ℕ) → getD (traceText t ++ rest) 0 0 ≡ 59
 semicolon t rest = rw (trace-text, version-line)
 
-stopped-number : {version start n p : ℕ} {s : List ℕ} → WriteStopped version start s n p → 20 ≤ n
-stopped-number (WriteStopped.no-records f) = omega arith
-stopped-number (WriteStopped.no-version w f) = omega arith
-stopped-number (WriteStopped.late w v l) = omega arith
-stopped-number (WriteStopped.malformed w v l f) = omega arith
-stopped-number (WriteStopped.misfit w v l h f) = omega arith
-
 -- Number 0 says that the text is done.
-done : {version start n p m : ℕ} {s before x : List ℕ} → WritePromise version start s before (n ∷ p ∷ m ∷ []) x → n ≡ 0
-    → WritePromise version start s before (writeNumbers (answer.Done m)) x
-done (WritePromise.refused {n = i} f e q) z = let d : 0 ≡ i = cc in absurd (omega (arith, stopped-number f))
+done : {version start first n p m : ℕ} {s before x : List ℕ} → WritePromise version start first s before (n ∷ p ∷ m ∷ []) x → n ≡ 0
+    → WritePromise version start first s before (writeNumbers (answer.Done m)) x
+done (WritePromise.refused {n = i} f e q) z = let d : 0 ≡ i = cc in absurd (omega (arith, stopped-numbers f .0))
 done (WritePromise.no-room w i l e q) z = let d : _≡_ {A = ℕ} 0 25 = cc in absurd (omega arith)
 done (WritePromise.done w i l e q) z = WritePromise.done w i l (cc) q
 
 -- What was written is read back.
-again : {version start m : ℕ} {s page after text out : List ℕ} {a : FromReader} → WritePromise version start s page (writeNumbers (answer.Done m)) after
-    → text ≡ take m after → length s ≤ length out → ReadPromise text out (six a) (a .after)
-    → (rs : List Record) × (s ≡ packed rs) × HandsOut (traceOf version start rs) a
+again : {version start first m : ℕ} {s page after text out : List ℕ} {a : FromReader} → WritePromise version start first s page (writeNumbers (answer.Done m)) after
+    → text ≡ take m after → length s ≤ length out → ReadPromise text out (seven a) (a .after)
+    → (rs : List Record) × (s ≡ packed rs) × HandsOut (traceOf version start first rs) a
 again {s = s} {out = out} {a = a} w e l r =
     let (rs, i, b, x) = back w l (rw e at r) in
     let n : a .rows ≡ length rs = cc (b) in
@@ -61,17 +54,18 @@ again {s = s} {out = out} {a = a} w e l r =
         version = cc (b);
         start = cc (b);
         rows = n;
+        first = cc (b);
         records = ap (take (20 * a .rows)) x ∙ take-at s (drop (length s) out) (20 * a .rows) d ∙ i;
       },
     )
 
 module _ {g : Writer} (k : KeepsWrite g) where
   puts : {t : Trace} (w : Tried t) (out : Lent) → length (traceText t) ≤ length (out .list)
-      → Puts t (out .list) (g (t .version) (t .start) (recordsOf t) out)
+      → Puts t (out .list) (g (t .version) (t .start) (t .first) (recordsOf t) out)
   puts {t} w out l =
-      let a = g (t .version) (t .start) (recordsOf t) out in
+      let a = g (t .version) (t .start) (t .first) (recordsOf t) out in
       let s = traceText t in
-      let z = writes (writable w) l (k .keeps (t .version) (t .start) (recordsOf t) out) in
+      let z = writes (writable w) l (k .keeps (t .version) (t .start) (t .first) (recordsOf t) out) in
       let n : a .bytes ≡ length s = cc (z .0) in
       record {
         accepted = cc (z .0);
@@ -81,35 +75,46 @@ module _ {g : Writer} (k : KeepsWrite g) where
 
   pub does-nothing : DoesNothing g → ⊥
   does-nothing h =
-      let t = traceOf 12 0 [] in
+      let t = traceOf 12 0 0 [] in
       let n = suc (length (traceText t)) in
       let a = puts empty (zeros n) (omega (arith, length-replicate {A = ℕ} n 0)) in
-      let e = sym (a .output) ∙ h 12 0 (recordsOf t) (zeros n) in
+      let e = sym (a .output) ∙ h 12 0 0 (recordsOf t) (zeros n) in
       omega (arith, semicolon t (drop (length (traceText t)) (zeros n .list)), ap (λ (s : List ℕ). getD s 0 0) e)
 
   pub writes-first : WritesFirst g → ⊥
   writes-first h =
-      let t = traceOf 12 0 (received12 0 1 ∷ received12 0 2 ∷ []) in
-      let u = traceOf 12 0 (received12 0 1 ∷ received12 0 1 ∷ []) in
+      let t = traceOf 12 0 1 (received12 0 1 ∷ received12 0 2 ∷ []) in
+      let u = traceOf 12 0 1 (received12 0 1 ∷ received12 0 1 ∷ []) in
       let n = length (traceText t) + length (traceText u) in
       let l = length-replicate {A = ℕ} n 0 in
       let a = puts two (zeros n) (omega arith) in
       let b = puts copied (zeros n) (omega arith) in
-      let e = sym (a .text) ∙ h 12 0 (received12 0 1) (received12 0 2 ∷ []) (recordsOf t) (recordsOf u) (zeros n) refl refl ∙ b .text in
+      let e = sym (a .text) ∙ h 12 0 1 (received12 0 1) (received12 0 2 ∷ []) (recordsOf t) (recordsOf u) (zeros n) refl refl ∙ b .text in
       omega (arith, ap (λ (x : Trace). getD (x .records) 1 (received12 0 0) .id) (one-house (writable two) (writable copied) e))
 
+  pub numbers-from-one : NumbersFromOne g → ⊥
+  numbers-from-one h =
+      let t = traceOf 12 0 4117 (received12 0 1 ∷ received12 0 2 ∷ []) in
+      let u = traceOf 12 0 1 (received12 0 1 ∷ received12 0 2 ∷ []) in
+      let n = length (traceText t) + length (traceText u) in
+      let l = length-replicate {A = ℕ} n 0 in
+      let a = puts middle (zeros n) (omega arith) in
+      let b = puts two (zeros n) (omega arith) in
+      let e = sym (a .text) ∙ h 12 0 4117 (recordsOf t) (zeros n) (a .accepted) (b .accepted) ∙ b .text in
+      omega (arith, ap (λ (x : Trace). x .first) (one-house (writable middle) (writable two) e))
+
   module _ {f : Reader} (j : KeepsRead f) where
-    pub reads-back : (version start : ℕ) (records page text out : Lent) → g version start records page .number ≡ 0
-        → text .list ≡ writtenText (g version start records page) → length (records .list) ≤ length (out .list)
-        → (rs : List Record) × (records .list ≡ packed rs) × HandsOut (traceOf version start rs) (f text out)
-    reads-back version start records page text out z e l =
-        again {a = f text out} (done (k .keeps version start records page) z) e l (j .keeps text out)
+    pub reads-back : (version start first : ℕ) (records page text out : Lent) → g version start first records page .number ≡ 0
+        → text .list ≡ writtenText (g version start first records page) → length (records .list) ≤ length (out .list)
+        → (rs : List Record) × (records .list ≡ packed rs) × HandsOut (traceOf version start first rs) (f text out)
+    reads-back version start first records page text out z e l =
+        again {a = f text out} (done (k .keeps version start first records page) z) e l (j .keeps text out)
 
     pub refuses-written : RefusesWritten g f → ⊥
     refuses-written h =
-        let t = traceOf 12 0 [] in
+        let t = traceOf 12 0 0 [] in
         let n = length (traceText t) in
         let a = puts empty (zeros n) (omega (arith, length-replicate {A = ℕ} n 0)) in
         let l : length (packed []) ≤ 0 = omega (arith, packed-length []) in
-        h 12 0 (recordsOf t) (zeros n) (textOf empty) (zeros 0) (a .accepted) (sym (a .text)) l
-        (reads-back 12 0 (recordsOf t) (zeros n) (textOf empty) (zeros 0) (a .accepted) (sym (a .text)) l .2 .accepted)
+        h 12 0 0 (recordsOf t) (zeros n) (textOf empty) (zeros 0) (a .accepted) (sym (a .text)) l
+        (reads-back 12 0 0 (recordsOf t) (zeros n) (textOf empty) (zeros 0) (a .accepted) (sym (a .text)) l .2 .accepted)

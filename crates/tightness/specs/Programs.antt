@@ -8,13 +8,13 @@ use Rattle.trace.specs.Promise.{ReadPromise}
 use Rattle.trace_writer.specs.Promise.{WritePromise}
 use Rattle.ascii.specs.Promise.{ExportPromise}
 
--- What a program is lent: bytes. (On a machine lengths and numbers end somewhere; what lies past that is refused with 1, 20, 21 or 22, or is
+-- What a program is lent: bytes. (On a machine lengths and numbers end somewhere; what lies past that is refused with 1, 20, 21, 22 or 26, or is
 -- room that no answer needs.)
 pub record Lent : Type 0 where
   pub list : List ℕ
   pub small : AreBytes list
 
--- A reader is given a text and an output. It gives six numbers, and what the output then holds.
+-- A reader is given a text and an output. It gives seven numbers, and what the output then holds.
 pub record FromReader : Type 0 where
   pub number : ℕ
   pub place : ℕ
@@ -22,17 +22,18 @@ pub record FromReader : Type 0 where
   pub start : ℕ
   pub rows : ℕ
   pub back : ℕ
+  pub first : ℕ
   pub after : List ℕ
 
 abbrev pub Reader : Type 0
 Reader = Lent → Lent → FromReader
 
-abbrev pub six : FromReader → List ℕ
-six a = a .number ∷ a .place ∷ a .version ∷ a .start ∷ a .rows ∷ a .back ∷ []
+abbrev pub seven : FromReader → List ℕ
+seven a = a .number ∷ a .place ∷ a .version ∷ a .start ∷ a .rows ∷ a .back ∷ a .first ∷ []
 
 -- It keeps the promise for every text and every output.
 pub record KeepsRead (f : Reader) : Type 0 where
-  pub keeps : (text out : Lent) → ReadPromise (text .list) (out .list) (six (f text out)) (f text out .after)
+  pub keeps : (text out : Lent) → ReadPromise (text .list) (out .list) (seven (f text out)) (f text out .after)
 
 -- The records that it hands out, twenty bytes for each row, and the j-th of them, from 0.
 abbrev pub handedOut : FromReader → List ℕ
@@ -41,7 +42,7 @@ handedOut a = take (20 * a .rows) (a .after)
 abbrev pub handedOutAt : FromReader → ℕ → List ℕ
 handedOutAt a j = take 20 (drop (20 * j) (handedOut a))
 
--- A writer is given a version, a start, records and an output. It gives three numbers, and what the output then holds.
+-- A writer is given a version, a start, a first number, records and an output. It gives three numbers, and what the output then holds.
 pub record FromWriter : Type 0 where
   pub number : ℕ
   pub place : ℕ
@@ -49,14 +50,14 @@ pub record FromWriter : Type 0 where
   pub after : List ℕ
 
 abbrev pub Writer : Type 0
-Writer = ℕ → ℕ → Lent → Lent → FromWriter
+Writer = ℕ → ℕ → ℕ → Lent → Lent → FromWriter
 
 abbrev pub three : FromWriter → List ℕ
 three a = a .number ∷ a .place ∷ a .bytes ∷ []
 
 pub record KeepsWrite (g : Writer) : Type 0 where
-  pub keeps : (version start : ℕ) (records out : Lent)
-      → WritePromise version start (records .list) (out .list) (three (g version start records out)) (g version start records out .after)
+  pub keeps : (version start first : ℕ) (records out : Lent)
+      → WritePromise version start first (records .list) (out .list) (three (g version start first records out)) (g version start first records out .after)
 
 -- The text that it has written.
 abbrev pub writtenText : FromWriter → List ℕ

@@ -1,4 +1,4 @@
--- The wrong programs of paper 01, "How tight a promise is": "These must be caught". In words: docs/FORMAT.md, section 13.
+-- The wrong programs of paper 01, "How tight a promise is": "These must be caught", and those of later orders. In words: docs/FORMAT.md, section 13.
 use Prim.Native.Nat.{ℕ, suc, _≤_, _<_}
 use mathlib.Core.Path.{_≡_}
 use mathlib.Core.Logic.{_≢_, _⊎_}
@@ -16,10 +16,10 @@ RefusesAll f = (text out : Lent) → f text out .number ≢ 0
 -- or it refuses at least all that a writer has written, also where there is room for the records.
 abbrev pub RefusesWritten : Writer → Reader → Type 0
 RefusesWritten g f =
-    (version start : ℕ) (records page text out : Lent) → g version start records page .number ≡ 0
-    → text .list ≡ writtenText (g version start records page) → length (records .list) ≤ length (out .list) → f text out .number ≢ 0
+    (version start first : ℕ) (records page text out : Lent) → g version start first records page .number ≡ 0
+    → text .list ≡ writtenText (g version start first records page) → length (records .list) ≤ length (out .list) → f text out .number ≢ 0
 
--- 2. "One that hands out the same trace always": version, start and records are the same for all texts that it accepts. One part of the
+-- 2. "One that hands out the same trace always": version, start, first number and records are the same for all texts that it accepts. One part of the
 -- trace that is always the same is wrong enough.
 abbrev pub Always : {A : Type 0} → (FromReader → A) → Reader → Type 0
 Always part f =
@@ -31,15 +31,18 @@ SameVersion = Always (λ a. a .version)
 abbrev pub SameStart : Reader → Type 0
 SameStart = Always (λ a. a .start)
 
+abbrev pub SameFirst : Reader → Type 0
+SameFirst = Always (λ a. a .first)
+
 abbrev pub SameRecords : Reader → Type 0
 SameRecords = Always handedOut
 
 abbrev pub SameAlways : Reader → Type 0
-SameAlways f = SameVersion f × SameStart f × SameRecords f
+SameAlways f = SameVersion f × SameStart f × SameFirst f × SameRecords f
 
 -- 3. "A writer that does nothing": the output stays what it was, whatever it is given.
 abbrev pub DoesNothing : Writer → Type 0
-DoesNothing g = (version start : ℕ) (records out : Lent) → g version start records out .after ≡ out .list
+DoesNothing g = (version start first : ℕ) (records out : Lent) → g version start first records out .after ≡ out .list
 
 -- 4. "One that treats the first row truly and copies it for the rest": each record of a reader is its first;
 abbrev pub CopiesFirst : Reader → Type 0
@@ -48,9 +51,9 @@ CopiesFirst f = (text out : Lent) → f text out .number ≡ 0 → (j : ℕ) →
 -- a writer's text is that of its first record, as often as there are records.
 abbrev pub WritesFirst : Writer → Type 0
 WritesFirst g =
-    (version start : ℕ) (r : Record) (rs : List Record) (records copies out : Lent) → records .list ≡ packed (r ∷ rs)
+    (version start first : ℕ) (r : Record) (rs : List Record) (records copies out : Lent) → records .list ≡ packed (r ∷ rs)
     → copies .list ≡ packed (replicate (length (r ∷ rs)) r)
-    → writtenText (g version start records out) ≡ writtenText (g version start copies out)
+    → writtenText (g version start first records out) ≡ writtenText (g version start first copies out)
 
 -- 5. "Invented counts of rows": for some text that it accepts, a reader's rows are not "the list's own length", of the records that the
 -- text spells;
@@ -86,3 +89,13 @@ pub record InventsLeftOut (e : Exporter) : Type 0 where
 pub record Touched (numbers before after : List ℕ) : Type 0 where
   pub refused : getD numbers 0 0 ≢ 0
   pub touched : (after ≢ before) ⊎ ((i : ℕ) × (getD (drop 2 numbers) i 0 ≢ 0))
+
+-- 7. Of Order 3: a reader that says 1 of every trace with rows that it accepts, as if all began there;
+abbrev pub SaysOne : Reader → Type 0
+SaysOne f = (text out : Lent) → f text out .number ≡ 0 → 1 ≤ f text out .rows → f text out .first ≡ 1
+
+-- and a writer that numbers from 1, whatever first number it is given, where it writes for both.
+abbrev pub NumbersFromOne : Writer → Type 0
+NumbersFromOne g =
+    (version start first : ℕ) (records out : Lent) → g version start first records out .number ≡ 0 → g version start 1 records out .number ≡ 0
+    → writtenText (g version start first records out) ≡ writtenText (g version start 1 records out)

@@ -251,7 +251,7 @@ one-read (large h e q) (refused k f d r) = absurd (omega arith)
 one-read (done h s l e q) (large k d r) = absurd (omega arith)
 one-read {before = before} (done h s l e q) (done k u m d r) =
     let z = one-trace s u in (
-      e ∙ ap (λ (t : Trace). readNumbers (outcome.Done (t .version) (t .start) (length (t .records)) (stepBack (t .records)))) z ∙ sym d,
+      e ∙ ap (λ (t : Trace). readNumbers (outcome.Done (t .version) (t .start) (length (t .records)) (stepBack (t .records)) (t .first))) z ∙ sym d,
       q ∙ ap (λ (t : Trace). packed (t .records) ++ drop (20 * length (t .records)) before) z ∙ sym r,
     )
 one-read (done h s l e q) (no-room k u m d r) = absurd (omega (arith, ap (λ (t : Trace). length (t .records)) (one-trace s u)))
@@ -270,7 +270,7 @@ one-read (refused h f e q) (refused k g d r) =
 -- Demand 3, acceptance: what spells a trace, where there is room, is accepted, and that trace handed out.
 pub accepts : {text before a x : List ℕ} {t : Trace} → length text ≤ sizeLimit → Spells t text → 20 * length (t .records) ≤ length before
     → ReadPromise text before a x
-    → (a ≡ readNumbers (outcome.Done (t .version) (t .start) (length (t .records)) (stepBack (t .records))))
+    → (a ≡ readNumbers (outcome.Done (t .version) (t .start) (length (t .records)) (stepBack (t .records)) (t .first)))
     × (x ≡ packed (t .records) ++ drop (20 * length (t .records)) before)
 accepts h s r p = one-read p (done h s r refl refl)
 
@@ -295,9 +295,9 @@ refusal {n = n} (refused {n = m} h f e q) = let z : n ≡ m = cc in omega (arith
 -- So the numbers tell the answer itself,
 pub same-outcome : (a b : Outcome) → readNumbers a ≡ readNumbers b → ((n p : ℕ) → readNumbers a ≡ readNumbers (outcome.Refused n p) → 1 ≤ n)
     → a ≡ b
-same-outcome (outcome.Done v s n b) (outcome.Done w t m c) e f = cc
-same-outcome (outcome.Done v s n b) (outcome.Refused m q) e f = let z : 0 ≡ m = cc in absurd (omega (arith, f m q e))
-same-outcome (outcome.Refused n p) (outcome.Done w t m c) e f = let z : n ≡ 0 = cc in absurd (omega (arith, f n p refl))
+same-outcome (outcome.Done v s n b i) (outcome.Done w t m c j) e f = cc
+same-outcome (outcome.Done v s n b i) (outcome.Refused m q) e f = let z : 0 ≡ m = cc in absurd (omega (arith, f m q e))
+same-outcome (outcome.Refused n p) (outcome.Done w t m c j) e f = let z : n ≡ 0 = cc in absurd (omega (arith, f n p refl))
 same-outcome (outcome.Refused n p) (outcome.Refused m q) e f = cc
 
 -- which is the only one.
@@ -308,7 +308,7 @@ same-read a b p q =
     (same-outcome a b (z .0) (λ n o e. refusal (rw e at p)), z .1)
 
 -- And only such a text is accepted.
-pub accepted : {text before x : List ℕ} {p v s n b : ℕ} → ReadPromise text before (0 ∷ p ∷ v ∷ s ∷ n ∷ b ∷ []) x
+pub accepted : {text before x : List ℕ} {p v s n b f : ℕ} → ReadPromise text before (0 ∷ p ∷ v ∷ s ∷ n ∷ b ∷ f ∷ []) x
     → (t : Trace) × Spells t text × (20 * length (t .records) ≤ length before)
 accepted (large h e q) = let z : _≡_ {A = ℕ} 0 1 = cc in absurd (omega arith)
 accepted (done {t = t} h s r e q) = (t, s, r)

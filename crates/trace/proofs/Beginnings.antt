@@ -11,7 +11,7 @@ use Rattle.fields.proofs.Runs.{all-append, all-of}
 use Rattle.record.specs.declared.Record.{Record}
 use Rattle.lines.specs.Lines.{lineLimit, FirstLine, VersionLine, StartLine}
 use Rattle.row.specs.Versions.{is11, versionText}
-use Rattle.trace.specs.Trace.{sizeLimit, Trace, Line, Body, over, comment, row, SpellsFrom, Spells, AreBytes, Begins}
+use Rattle.trace.specs.Trace.{sizeLimit, Trace, traceOf, no-rows, Line, Body, over, comment, row, Spells, AreBytes, Begins}
 use Rattle.trace.specs.Promise.{EndedLines, none, line}
 use Rattle.lines.proofs.Theorems.{first-one, version-line-text, version-line-inside, startLine, start-line-text, start-line-inside}
 use Rattle.trace.proofs.Apart.{no-line}
@@ -22,10 +22,10 @@ abbrev versionLine : List ℕ
 versionLine = 59 ∷ versionText 11
 
 -- A version line and a start line are a trace without rows.
-pub header : {number v s : ℕ} {first second rest text : List ℕ} → Line first rest text → VersionLine v first → Line second [] rest → StartLine s second
-    → SpellsFrom number (record { version = v; start = s; records = [] }) text
+pub header : {v s : ℕ} {first second rest text : List ℕ} → Line first rest text → VersionLine v first → Line second [] rest → StartLine s second
+    → Spells (traceOf v s 0 []) text
 header l w m x =
-    record { first = _; after-first = _; one = l; version = w; second = _; after-second = []; two = m; start = x; body = over }
+    record { first = _; after-first = _; one = l; version = w; second = _; after-second = []; two = m; start = x; body = over; numbered = no-rows refl refl }
 
 -- A start line, ended.
 start-alone : Line startLine [] (endedLine startLine)
@@ -93,7 +93,7 @@ body-shorts over = no-more
 body-shorts (comment l c h) = one-more l (body-shorts h)
 body-shorts (row l w h) = one-more l (body-shorts h)
 
-pub spells-shorts : {number : ℕ} {t : Trace} {text : List ℕ} → SpellsFrom number t text → Shorts text
+pub spells-shorts : {t : Trace} {text : List ℕ} → Spells t text → Shorts text
 spells-shorts a = one-more (a .one) (one-more (a .two) (body-shorts (a .body)))
 
 -- So is every line behind some lines.

@@ -1,15 +1,18 @@
 -- Texts cut after a line, and texts put together: what stands before the cut spells a trace of its own.
-use Prim.Native.Nat.{ℕ, suc, _+_, _≤_}
+use Prim.Native.Nat.{ℕ, suc, _+_, _-_, _≤_}
 use mathlib.Core.Path.{_≡_, refl, ap, sym, _∙_}
-use mathlib.Core.List.{List, [], _∷_, _++_, append-assoc}
+use mathlib.Core.List.{List, [], _∷_, _++_, append-assoc, append-nil}
 use native.Mathlib.Nat.{add-zero}
 use native.Mathlib.Omega.{arith}
-use lib.ListN.{length}
+use lib.ListN.{length, length-append}
 use Rattle.record.specs.declared.Record.{Record}
+use Rattle.fields.specs.Columns.{lastNumber}
 use Rattle.fields.specs.Runs.{All}
+use Rattle.row.specs.Row.{Expected, this, any, Row}
 use Rattle.row.specs.Versions.{headLines}
-use Rattle.lines.specs.Lines.{Inside, FirstLine}
-use Rattle.trace.specs.Trace.{Trace, traceOf, Line, Body, over, comment, row, SpellsFrom}
+use Rattle.row.proofs.Formed.{row-number}
+use Rattle.lines.specs.Lines.{Inside, FirstLine, Comment}
+use Rattle.trace.specs.Trace.{Trace, traceOf, FirstNumber, no-rows, some-rows, Line, Body, over, comment, row, Spells}
 use Rattle.trace.specs.Promise.{EndedLines, none, line}
 use Rattle.lines.proofs.Theorems.{first-one}
 use Rattle.trace.proofs.Apart.{no-line}
@@ -94,54 +97,88 @@ body-append {k = k} {rest = rest} (row {rs = rs} l w h) g =
     row (line-more rest l) w (body-append h (rw n at g))
 
 -- Where no row stands, the next may have any number.
-body-none : {v k j : ℕ} {t : List ℕ} {rs : List Record} → rs ≡ [] → Body v k rs t → Body v j rs t
+body-none : {v k j : ℕ} {t : List ℕ} {rs : List Record} → length rs ≡ 0 → Body v k rs t → Body v j rs t
 body-none e over = over
 body-none e (comment l c h) = comment l c (body-none e h)
-body-none e (row l w h) = let z : _≡_ {A = ℕ} 0 1 = cc in absurd (omega arith)
+body-none e (row l w h) = absurd (omega arith)
 
-pub spells-none : {number other version start : ℕ} {text : List ℕ} → SpellsFrom number (traceOf version start []) text
-    → SpellsFrom other (traceOf version start []) text
-spells-none a = record {
+-- A text that spells a trace, with more behind it, and these rows instead.
+lengthened : {t : Trace} {front : List ℕ} {first : ℕ} {rs : List Record} (a : Spells t front) (s : List ℕ) → Body (t .version) first rs (a .after-second ++ s)
+    → FirstNumber first (length rs) → Spells (traceOf (t .version) (t .start) first rs) (front ++ s)
+lengthened a s b n = record {
   first = a .first;
-  after-first = a .after-first;
-  one = a .one;
+  after-first = a .after-first ++ s;
+  one = line-more s (a .one);
   version = a .version;
   second = a .second;
-  after-second = a .after-second;
-  two = a .two;
+  after-second = a .after-second ++ s;
+  two = line-more s (a .two);
   start = a .start;
-  body = body-none refl (a .body);
+  body = b;
+  numbered = n;
 }
 
--- The trace with these records.
+-- A comment behind it leaves the trace as it is.
+pub spells-comment : {t : Trace} {front s : List ℕ} → Spells t front → Line s [] (endedLine s) → Comment s → Spells t (front ++ endedLine s)
+spells-comment {s = s} a l c = lengthened a (endedLine s) (rw append-nil at (body-append (a .body) (comment l c over))) (a .numbered)
+
+-- One row more, of number k: the first has k less as many as stand before it.
+abbrev pub withRow : Trace → ℕ → Record → Trace
+withRow t k r = traceOf (t .version) (t .start) (k - length (t .records)) (t .records ++ (r ∷ []))
+
+module _ {t : Trace} {front s : List ℕ} {r : Record} {k : ℕ} (a : Spells t front) (e : Expected (t .first + length (t .records)) k) (w : Row (t .version) k r s) where
+  before-row : (k - length (t .records) + length (t .records) ≡ k) × Body (t .version) (k - length (t .records)) (t .records) (a .after-second)
+  before-row = go e
+    where
+      go : Expected (t .first + length (t .records)) k
+          → (k - length (t .records) + length (t .records) ≡ k) × Body (t .version) (k - length (t .records)) (t .records) (a .after-second)
+      go (any z) = (omega arith, body-none (omega arith) (a .body))
+      go (this q) = let n : t .first ≡ k - length (t .records) = omega arith in (omega arith, rw n at (a .body))
+
+  numbered-row : FirstNumber (k - length (t .records)) (length (t .records ++ (r ∷ [])))
+  numbered-row = go (a .numbered) e (row-number w) (length-append (t .records) (r ∷ []))
+    where
+      go : {first n m : ℕ} → FirstNumber first n → Expected (first + n) k → (1 ≤ k) × (k ≤ lastNumber) → m ≡ n + 1 → FirstNumber (k - n) m
+      go (no-rows z x) e h l = some-rows (omega arith) (omega arith) (omega arith)
+      go (some-rows c m u) (this q) h l = some-rows (omega arith) (omega arith) (omega arith)
+      go (some-rows c m u) (any z) h l = absurd (omega arith)
+
+  pub spells-row : Line s [] (endedLine s) → Spells (withRow t k r) (front ++ endedLine s)
+  spells-row l = let b = before-row in lengthened a (endedLine s) (body-append (b .1) (row l (rw (← (b .0)) at w) over)) numbered-row
+
+-- The first number where these are the rows.
+abbrev pub firstOf : ℕ → List Record → ℕ
+firstOf first [] = 0
+firstOf first (r ∷ rs) = first
+
+-- The trace with these of its rows.
 abbrev pub withRecords : Trace → List Record → Trace
-withRecords t rs = record { version = t .version; start = t .start; records = rs }
+withRecords t rs = traceOf (t .version) (t .start) (firstOf (t .first) rs) rs
 
--- A text that spells a trace, and more rows behind it.
-pub spells-append : {number : ℕ} {t : Trace} {bs : List Record} {front rest : List ℕ} → SpellsFrom number t front
-    → Body (t .version) (number + length (t .records)) bs rest → SpellsFrom number (withRecords t (t .records ++ bs)) (front ++ rest)
-spells-append {rest = rest} a g = record {
-  first = a .first;
-  after-first = a .after-first ++ rest;
-  one = line-more rest (a .one);
-  version = a .version;
-  second = a .second;
-  after-second = a .after-second ++ rest;
-  two = line-more rest (a .two);
-  start = a .start;
-  body = body-append (a .body) g;
-}
+body-of : {v first : ℕ} (rs : List Record) {t : List ℕ} → Body v first rs t → Body v (firstOf first rs) rs t
+body-of [] b = body-none refl b
+body-of (r ∷ rs) b = b
+
+numbered-of : {first : ℕ} (rs qs : List Record) → FirstNumber first (length (rs ++ qs)) → FirstNumber (firstOf first rs) (length rs)
+numbered-of [] qs n = no-rows refl refl
+numbered-of (r ∷ rs) qs (no-rows z x) = absurd (omega arith)
+numbered-of (r ∷ rs) qs (some-rows h l u) = some-rows (omega arith) l (omega (arith, length-append rs qs))
+
+-- Behind them the next number is expected.
+pub expected-next : (first : ℕ) (rs : List Record) → Expected (firstOf first rs + length rs) (first + length rs)
+expected-next first [] = any refl
+expected-next first (r ∷ rs) = this refl
 
 -- A text that spells a trace, cut after its head lines or more.
-pub record CutTrace (number : ℕ) (t : Trace) (front rest : List ℕ) : Type 0 where
+pub record CutTrace (t : Trace) (front rest : List ℕ) : Type 0 where
   pub before : List Record
   pub after : List Record
   pub whole : t .records ≡ before ++ after
-  pub first : SpellsFrom number (withRecords t before) front
-  pub second : Body (t .version) (number + length before) after rest
+  pub first : Spells (withRecords t before) front
+  pub second : Body (t .version) (t .first + length before) after rest
 
-pub spells-cut : {n number : ℕ} {t : Trace} {front : List ℕ} (rest : List ℕ) → headLines (t .version) ≤ n → EndedLines n front
-    → SpellsFrom number t (front ++ rest) → CutTrace number t front rest
+pub spells-cut : {n : ℕ} {t : Trace} {front : List ℕ} (rest : List ℕ) → headLines (t .version) ≤ n → EndedLines n front
+    → Spells t (front ++ rest) → CutTrace t front rest
 spells-cut rest m none a = absurd (omega arith)
 spells-cut rest m (line f none) a = absurd (omega arith)
 spells-cut {t = t} rest m (line f (line g ls)) a =
@@ -161,7 +198,8 @@ spells-cut {t = t} rest m (line f (line g ls)) a =
         after-second = _;
         two = record { first = rw (← (y .0)) at g; short = a .two .short };
         start = a .start;
-        body = c .first;
+        body = body-of (c .before) (c .first);
+        numbered = numbered-of (c .before) (c .after) (rw (c .whole) at (a .numbered));
       };
       second = c .second;
     }

@@ -5,17 +5,21 @@ use mathlib.Core.Path.{_≡_, refl, ap}
 use mathlib.Core.List.{List, [], _++_}
 use native.Mathlib.Omega.{arith}
 use lib.ListN.{length, getD}
+use Rattle.record.specs.declared.Record.{Record}
+use Rattle.fields.specs.Columns.{lastNumber}
+use Rattle.row.specs.Row.{Expected, this, any, Row}
 use Rattle.row.specs.Versions.{headLines}
+use Rattle.row.proofs.Formed.{row-number}
+use Rattle.lines.specs.Lines.{Comment, DollarLine}
 use Rattle.trace.specs.Trace.{sizeLimit, Trace, Line, Spells, Begins}
-use Rattle.trace.specs.Trace.{over as body-over, comment as body-comment, row as body-row}
 use Rattle.trace.specs.Promise
 use Rattle.trace.specs.Promise.{EndedLines, Reached, PastHead, Barred, RefusedAtLine, ReadPromise}
 use Rattle.trace.specs.Promise.{none as no-lines, line as lines-more}
 use Rattle.lines.proofs.Theorems.{first-one}
-use Rattle.trace.proofs.Cuts.{endedLine, first-more, line-more, first-alone, withRecords, spells-append, spells-cut}
+use Rattle.trace.proofs.Cuts.{endedLine, first-more, line-more, first-alone, spells-comment, spells-row, withRecords, spells-cut}
 use Rattle.trace.proofs.Beginnings.{header, begins-version, begins-spelled}
 use Rattle.trace.proofs.Fails
-use Rattle.trace.proofs.Fails.{Stage, first, second, later, RightSoFar, at-first, at-second, at-later, Next, version, start, comment, row, WrongNext, Fails, fails-refused}
+use Rattle.trace.proofs.Fails.{Stage, first, second, later, RightSoFar, at-first, at-second, at-later, nextNumber, Next, version, start, comment, row, WrongNext, Fails, fails-refused}
 use Rattle.trace.proofs.Place.{barred-size}
 use Rattle.trace.proofs.Answers.{one-read}
 
@@ -70,8 +74,8 @@ goes-on : {n : ℕ} {front line : List ℕ} {g : Stage} → RightSoFar n front g
     → length (front ++ endedLine line) ≤ sizeLimit → Begins (front ++ endedLine line)
 goes-on at-first l (version w) h = begins-version l w
 goes-on {line = line} (at-second f v) l (start w) h = begins-spelled (header (line-more (endedLine line) f) v l w) h
-goes-on (at-later m ls a) l (comment c) h = begins-spelled (spells-append a (body-comment l c body-over)) h
-goes-on (at-later m ls a) l (row w) h = begins-spelled (spells-append a (body-row l w body-over)) h
+goes-on (at-later m ls a) l (comment c) h = begins-spelled (spells-comment a l c) h
+goes-on (at-later m ls a) l (row e w) h = begins-spelled (spells-row a e w l) h
 
 module _ {text : List ℕ} (size : length text ≤ sizeLimit) where
   -- So a line with which none begins may not.
@@ -99,7 +103,7 @@ module _ {text : List ℕ} (size : length text ≤ sizeLimit) where
   refused-fails (Promise.dollar b m d) = fails (b .reached) (on-later (b .reached) m .1) (Fails.dollar (b .there) d)
   refused-fails (Promise.no-row b m d) =
       let s = on-later (b .reached) m .1 in
-      fails (b .reached) s (Fails.no-row (b .there) (λ c. bars b s (comment c)) d (λ q w. bars b s (row w)))
+      fails (b .reached) s (Fails.no-row (b .there) (λ c. bars b s (comment c)) d (λ k q e w. bars b s (row e w)))
 
 -- What the table lists for a text and an output. 2 to 7: the first line that is wrong has this number and place.
 pub data Listed (text before : List ℕ) : ℕ → ℕ → Type 0 where
@@ -134,3 +138,16 @@ module _ {text before a x : List ℕ} where
 pub exactly : {text before a x : List ℕ} (n p : ℕ) → ReadPromise text before a x
     → ((number a ≡ n) × (place a ≡ p) → Listed text before n p) × (Listed text before n p → (number a ≡ n) × (place a ≡ p))
 exactly n p r = (λ e. rw (← (e .0), ← (e .1)) (given-listed r), λ t. listed-given t r)
+
+-- Behind number 999,999 there is no row: an ended line that is no comment is refused there, with 7 unless it has a `$` first.
+module _ {text front rest line after : List ℕ} {n : ℕ} {t : Trace} (size : length text ≤ sizeLimit) (whole : text ≡ front ++ rest)
+    (before : headLines (t .version) ≤ n) (lines : EndedLines n front) (spelled : Spells t front) (last : nextNumber t ≡ lastNumber + 1)
+    (there : Line line after rest) where
+  no-number : (k : ℕ) (r : Record) → Expected (nextNumber t) k → Row (t .version) k r line → ⊥
+  no-number k r (this q) w = omega (arith, row-number w)
+  no-number k r (any z) w = omega arith
+
+  pub behind-last : {out a x : List ℕ} → (Comment line → ⊥) → (DollarLine line → ⊥) → ReadPromise text out a x → (number a ≡ 7) × (place a ≡ n + 1)
+  behind-last c d r =
+      let stopped = Fails.no-row {t = t} there c d no-number in
+      listed-given (wrong size (record { n = n; front = front; rest = rest; stage = later t; whole = whole; stands = at-later before lines spelled; stopped = stopped; at = refl })) r

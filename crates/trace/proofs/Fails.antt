@@ -8,7 +8,7 @@ use lib.ListN.{length, length-append}
 use Rattle.record.specs.declared.Record.{Record}
 use Rattle.fields.specs.Runs.{All}
 use Rattle.row.specs.Versions.{headLines}
-use Rattle.row.specs.Row.{Row}
+use Rattle.row.specs.Row.{Expected, Row}
 use Rattle.lines.specs.Lines.{lineLimit, Inside, FirstLine, VersionLine, StartLine, Comment, DollarLine}
 use Rattle.trace.specs.Trace.{sizeLimit, Trace, Line, Body, Spells, Begins}
 use Rattle.trace.specs.Trace.{over as body-over, comment as body-comment, row as body-row}
@@ -18,7 +18,7 @@ use Rattle.trace.specs.Promise
 use Rattle.lines.proofs.Theorems.{first-one, not-both}
 use Rattle.trace.proofs.Apart.{no-line, row-no-dollar}
 use Rattle.trace.proofs.One.{one-trace}
-use Rattle.trace.proofs.Cuts.{endedLine, first-more, first-there, spells-cut}
+use Rattle.trace.proofs.Cuts.{endedLine, first-more, first-there, expected-next, spells-cut}
 use Rattle.trace.proofs.Beginnings.{begins-none, begins-version, begins-spelled}
 
 -- What the lines so far say: none stands there; one, of this version; the head lines or more, which spell this trace.
@@ -33,12 +33,16 @@ pub data RightSoFar : ℕ → List ℕ → Stage → Type 0 where
   at-second : {v : ℕ} {line front : List ℕ} → Line line [] front → VersionLine v line → RightSoFar 1 front (second v)
   at-later : {n : ℕ} {t : Trace} {front : List ℕ} → headLines (t .version) ≤ n → EndedLines n front → Spells t front → RightSoFar n front (later t)
 
+-- The number that is expected next: 0, where no row stands before.
+abbrev pub nextNumber : Trace → ℕ
+nextNumber t = t .first + length (t .records)
+
 -- The line may stand next.
 pub data Next : Stage → List ℕ → Type 0 where
   version : {v : ℕ} {line : List ℕ} → VersionLine v line → Next first line
   start : {v s : ℕ} {line : List ℕ} → StartLine s line → Next (second v) line
   comment : {t : Trace} {line : List ℕ} → Comment line → Next (later t) line
-  row : {t : Trace} {r : Record} {line : List ℕ} → Row (t .version) (1 + length (t .records)) r line → Next (later t) line
+  row : {t : Trace} {k : ℕ} {r : Record} {line : List ℕ} → Expected (nextNumber t) k → Row (t .version) k r line → Next (later t) line
 
 -- What is left stops the text, with this number.
 pub data WrongNext : Stage → List ℕ → ℕ → Type 0 where
@@ -50,7 +54,7 @@ pub data WrongNext : Stage → List ℕ → ℕ → Type 0 where
   no-start : {v : ℕ} {line after rest : List ℕ} → Line line after rest → ((s : ℕ) → StartLine s line → ⊥) → WrongNext (second v) rest 5
   dollar : {t : Trace} {line after rest : List ℕ} → Line line after rest → DollarLine line → WrongNext (later t) rest 6
   no-row : {t : Trace} {line after rest : List ℕ} → Line line after rest → (Comment line → ⊥) → (DollarLine line → ⊥)
-      → ((r : Record) → Row (t .version) (1 + length (t .records)) r line → ⊥) → WrongNext (later t) rest 7
+      → ((k : ℕ) (r : Record) → Expected (nextNumber t) k → Row (t .version) k r line → ⊥) → WrongNext (later t) rest 7
 
 -- The first line that is wrong has this place, and the number says how.
 pub record Fails (text : List ℕ) (number place : ℕ) : Type 0 where
@@ -85,11 +89,11 @@ stands-reached {front = front} {rest = rest} s e h = record {
 }
 
 -- The first line of the rows to come.
-body-next : {t : Trace} {rs : List Record} {line after rest : List ℕ} → FirstLine line after rest
-    → Body (t .version) (1 + length (t .records)) rs rest → Next (later t) line
-body-next f body-over = absurd (no-line f)
-body-next f (body-comment l c h) = comment (rw (first-one (l .first) f .0) at c)
-body-next f (body-row l w h) = row (rw (first-one (l .first) f .0) at w)
+body-next : {t : Trace} {k : ℕ} {rs : List Record} {line after rest : List ℕ} → FirstLine line after rest → Expected (nextNumber t) k
+    → Body (t .version) k rs rest → Next (later t) line
+body-next f e body-over = absurd (no-line f)
+body-next f e (body-comment l c h) = comment (rw (first-one (l .first) f .0) at c)
+body-next f e (body-row l w h) = row e (rw (first-one (l .first) f .0) at w)
 
 -- Whatever spells a trace and begins with these lines has behind them a line that may stand next.
 pub stands-next : {n : ℕ} {front line after rest : List ℕ} {g : Stage} {u : Trace} → RightSoFar n front g → FirstLine line after rest
@@ -98,10 +102,10 @@ stands-next at-first f a = version (rw (first-one (a .one .first) f .0) at (a .v
 stands-next {rest = rest} (at-second l w) f a =
     let x = first-one (a .one .first) (first-more rest (l .first)) in
     start (rw (first-one (a .two .first) (rw (← (x .1)) at f) .0) at (a .start))
-stands-next {rest = rest} (at-later {t = t} m ls b) f a =
+stands-next {line = line} {rest = rest} {u = u} (at-later {t = t} m ls b) f a =
     let c = spells-cut rest m ls a in
     let e = one-trace (c .first) b in
-    body-next f (subst (λ (x : Trace). Body (x .version) (1 + length (x .records)) (c .after) rest) e (c .second))
+    subst (λ (x : Trace). Next (later x) line) e (body-next f (expected-next (u .first) (c .before)) (c .second))
 
 -- So no acceptable text begins with them and a line that may not.
 pub stands-never : {n : ℕ} {front line : List ℕ} {g : Stage} → RightSoFar n front g → All Inside line → (Next g line → ⊥)
@@ -129,12 +133,12 @@ not-start bars (start w) = bars _ w
 
 not-dollar : {t : Trace} {line : List ℕ} → DollarLine line → Next (later t) line → ⊥
 not-dollar d (comment c) = not-both c d
-not-dollar d (row w) = row-no-dollar w d
+not-dollar d (row e w) = row-no-dollar w d
 
-not-row : {t : Trace} {line : List ℕ} → (Comment line → ⊥) → ((r : Record) → Row (t .version) (1 + length (t .records)) r line → ⊥)
+not-row : {t : Trace} {line : List ℕ} → (Comment line → ⊥) → ((k : ℕ) (r : Record) → Expected (nextNumber t) k → Row (t .version) k r line → ⊥)
     → Next (later t) line → ⊥
 not-row c r (comment x) = c x
-not-row c r (row w) = r _ w
+not-row c r (row e w) = r _ _ e w
 
 -- Each case is a refusal of the promise.
 pub stopped-refused : {n number : ℕ} {front rest text : List ℕ} {g : Stage} → RightSoFar n front g → text ≡ front ++ rest

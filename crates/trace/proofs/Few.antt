@@ -6,7 +6,7 @@ use native.Mathlib.Omega.{arith}
 use lib.ListN.{length, length-append}
 use Rattle.record.specs.declared.Record.{Record}
 use Rattle.row.proofs.Least.{row-least}
-use Rattle.trace.specs.Trace.{Trace, Line, Body, over, comment, row, SpellsFrom}
+use Rattle.trace.specs.Trace.{Trace, Line, Body, over, comment, row, Spells}
 
 -- A line, CR LF and what stands behind them.
 line-size : {line rest text : List ℕ} → Line line rest text → length text ≡ length line + (2 + length rest)
@@ -18,5 +18,5 @@ body-few (comment l c h) = omega (arith, line-size l, body-few h)
 body-few (row l w h) = omega (arith, line-size l, row-least w, body-few h)
 
 -- Each row takes at least 18 bytes of its text.
-pub rows-few : {number : ℕ} {t : Trace} {text : List ℕ} → SpellsFrom number t text → 18 * length (t .records) ≤ length text
+pub rows-few : {t : Trace} {text : List ℕ} → Spells t text → 18 * length (t .records) ≤ length text
 rows-few a = omega (arith, line-size (a .one), line-size (a .two), body-few (a .body))

@@ -16,18 +16,20 @@ use Rattle.records.specs.Records.{packed}
 use Rattle.records.specs.StepBack.{stepBack}
 use Rattle.records.proofs.Packing.{packed-more, packed-length}
 use Rattle.records.proofs.StepBack.{lastOffset, last-more, back-keep, back-found, back-none}
+use Rattle.fields.specs.Columns.{lastNumber}
 use Rattle.row.specs.Row.{Row}
 use Rattle.row.proofs.Formed.{row-formed}
 use Rattle.row.proofs.One.{row-one}
 use Rattle.row.proofs.Plain.{row-starts, row-some}
 use Rattle.lines.specs.Lines.{FirstLine, Comment}
-use Rattle.trace.specs.Trace.{Trace, Line, Body, over, comment, row, SpellsFrom}
+use Rattle.trace.specs.Trace.{Trace, traceOf, Line, Body, over, comment, row, Spells}
 use Rattle.trace.specs.inner.Passes.{There, Bars, Headed, RecordsFit, Filled}
 use Rattle.trace.proofs.Rows.{Rowed}
 use Rattle.trace.specs.inner.Passes
-use Rattle.trace.proofs.Cuts.{spells-none, spells-cut}
+use Rattle.trace.proofs.Cuts.{spells-cut}
 use Rattle.lines.proofs.Theorems.{first-one, not-both}
 use Rattle.trace.proofs.Apart.{no-line, row-no-comment, row-no-dollar}
+use Rattle.trace.proofs.Numbers.{next-number}
 use Rattle.trace.proofs.One.{one-trace}
 
 -- The first step back with one record more.
@@ -50,7 +52,7 @@ pub record Filling (first : ℕ) (text old out : List ℕ) (version start at o r
   pub few : rows ≤ at
   pub before : List Record
   pub after : List Record
-  pub spelled : SpellsFrom first (record { version = version; start = start; records = before ++ after }) text
+  pub spelled : Spells (traceOf version start first (before ++ after)) text
   pub rest : Body version (first + rows) after (drop at text)
   pub counted : rows ≡ length before
   pub room : o + 20 * length after ≤ length old
@@ -59,12 +61,12 @@ pub record Filling (first : ℕ) (text old out : List ℕ) (version start at o r
   pub latest : last ≡ lastOffset before
   pub stepped : back ≡ stepBack before
 
-pub filling : {first : ℕ} {text old : List ℕ} {version start at : ℕ} → Headed text at version start → RecordsFit first text old version start
+pub filling : {first : ℕ} {text old : List ℕ} {version start at : ℕ} → Headed text at version start → RecordsFit text old version start first
     → Filling first text old old version start at 0 0 0 0
 unfolding packed stepBack
 filling {text = text} {at = at} h f =
     let c = spells-cut (drop at text) (omega arith) (h .lines) (rw (← take-append-drop at text) at (f .spelled)) in
-    let z : c .before ≡ [] = ap (λ (t : Trace). t .records) (one-trace (c .first) (spells-none (h .spelled))) in
+    let z : c .before ≡ [] = ap (λ (t : Trace). t .records) (one-trace (c .first) (h .spelled)) in
     let w : f .records ≡ c .after = c .whole ∙ ap (λ (x : List Record). x ++ c .after) z in
     record {
       within = h .within;
@@ -126,6 +128,10 @@ module _ {first : ℕ} {text old out : List ℕ} {version start at o rows last b
       let p = f .place in
       let m = f .room in
       omega (arith, ap length (f .stored) ∙ length-append (packed (f .before)) (drop o old), packed-length (f .before), length-drop o old)
+
+  -- The number of the next row fits a word.
+  pub number-fits : first + rows ≤ lastNumber + 1
+  number-fits = let n = next-number (f .spelled .numbered) in omega (arith, f .counted, length-append (f .before) (f .after))
 
   pub stored-note : {next : ℕ} (line : List ℕ) → There text at next line → Comment line → Filling first text old out version start next o rows last back
   stored-note line t c = record {
@@ -198,13 +204,13 @@ module _ {first : ℕ} {text old out : List ℕ} {version start at o rows last b
   done-body (comment l c b) e = absurd (no-line (rw e at (l .first)))
   done-body (row l w b) e = absurd (no-line (rw e at (l .first)))
 
-  pub filled : length text ≤ at → Filled first text old out back
+  pub filled : length text ≤ at → Filled text old out back
   filled h = record {
     bytes = λ t s. rw (all t s, ← (f .place)) (f .stored);
     back = λ t s. rw (all t s) (f .stepped);
   }
     where
-      all : (t : Trace) → SpellsFrom first t text → t .records ≡ f .before
+      all : (t : Trace) → Spells t text → t .records ≡ f .before
       all t s =
           let z : f .after ≡ [] = done-body (f .rest) (drop-of-length-le text h) in
           let q = ap (λ (u : Trace). u .records) (one-trace s (f .spelled)) in

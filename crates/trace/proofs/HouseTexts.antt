@@ -44,7 +44,7 @@ unfolding rowsText
 rows-more version k r rs = refl
 
 pub trace-text : (t : Trace) → traceText t
-    ≡ versionLineText (t .version) ++ (13 ∷ 10 ∷ (startLineText (t .start) ++ (13 ∷ 10 ∷ rowsText (t .version) 1 (t .records))))
+    ≡ versionLineText (t .version) ++ (13 ∷ 10 ∷ (startLineText (t .start) ++ (13 ∷ 10 ∷ rowsText (t .version) (t .first) (t .records))))
 unfolding traceText
 trace-text t = refl
 

@@ -8,6 +8,7 @@ pub mod Few
 pub mod Filling
 pub mod HouseTexts
 pub mod Judging
+pub mod Numbers
 pub mod One
 pub mod Opening
 pub mod Pieces

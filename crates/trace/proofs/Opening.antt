@@ -7,7 +7,7 @@ use lib.ListN.{length, take, drop, length-drop, take-append-drop, drop-of-length
 use Rattle.lines.specs.Lines.{lineLimit, FirstLine, VersionLine, StartLine}
 use Rattle.row.proofs.EachVersion.{version-low}
 use Rattle.lines.specs.inner.Answer.{VersionOr0, version, none}
-use Rattle.trace.specs.Trace.{sizeLimit, Line, over}
+use Rattle.trace.specs.Trace.{sizeLimit, no-rows, Line, over}
 use Rattle.trace.specs.Promise.{RefusedAtLine}
 use Rattle.trace.specs.inner.Passes.{There, Versioned, Headed}
 use Rattle.trace.proofs.Cuts.{endedLine, first-alone, first-there, lines-alone, lines-append}
@@ -72,6 +72,7 @@ module _ (text : List ℕ) (size : length text ≤ sizeLimit) where
             two = record { first = first-alone (t .is .first .inside); short = t .is .short };
             start = w;
             body = over;
+            numbered = no-rows refl refl;
           });
         }
 

@@ -12,10 +12,11 @@ use Rattle.fields.specs.inner.Window.{LineBeforeCr, Lined}
 use Rattle.fields.proofs.Runs.{all-map}
 use Rattle.record.specs.declared.Record.{Record}
 use Rattle.record.specs.Record.{recordOf}
-use Rattle.row.specs.Row.{Row}
+use Rattle.row.specs.Row.{Expected, Row}
 use Rattle.row.proofs.Plain.{row-plain}
-use Rattle.row_reader.specs.inner.Answer.{RowFound, row-found, no-row}
+use Rattle.row_reader.specs.inner.Answer.{RowFound, row-found, no-row, NumberOf}
 use Rattle.lines.specs.Lines.{lineLimit}
+use Rattle.row_reader.proofs.Numbers.{number-of}
 use Rattle.row_reader.proofs.Whole.{framed}
 use Rattle.trace.specs.Trace.{Line}
 use Rattle.trace.specs.inner.Passes.{There, mostHeld, Reaches, NoRow, RowAt, here, nowhere}
@@ -180,6 +181,17 @@ module _ {text w fields : List ℕ} {at from version k e : ℕ} (reach : Reaches
               let s = l .short in
               let x = next-byte text at {feed = from + e} l (omega arith) in
               not (λ q. omega arith) (omega arith) (x .0) (x .1)
+
+-- The number k of the row at `at`, where row e is expected: k is one that is expected, and if no row k stands there, none of those does.
+module _ {text w : List ℕ} {at from e k : ℕ} (reach : Reaches text at from w) (inside : at ≤ length text)
+    (read : (line : List ℕ) → LineBeforeCr line (drop (at - from) w) → NumberOf e line k) where
+  pub number-expected : Expected e k
+  number-expected = let l = lined reach inside in read (l .line) (l .is) .expected
+
+  pub none-expected : {version : ℕ} → NoRow text at version k → (j : ℕ) → Expected e j → NoRow text at version j
+  none-expected none j x r line after l u =
+      let q = number-of (read line (in-window (view reach inside) l)) u x in
+      none r line after l (rw q at u)
 
 -- Row k stands at `at`.
 pub record Rowed (text : List ℕ) (at version k : ℕ) : Type 0 where

@@ -22,9 +22,10 @@ use Rattle.row.proofs.Formed.{row-formed, row-carried, row-number}
 use Rattle.row.proofs.Plain.{row-plain}
 use Rattle.lines.specs.Lines.{Inside, startText, StartLine}
 use Rattle.lines.proofs.Theorems.{version-line-text, version-line-inside, start-line-of, start-line-inside}
-use Rattle.trace.specs.Trace.{sizeLimit, Trace, Body, over, comment, row, SpellsFrom, Spells}
+use Rattle.trace.specs.Trace.{sizeLimit, Trace, FirstNumber, some-rows, Body, over, comment, row, Spells}
 use Rattle.trace.specs.House.{versionLineText, fractionOfDay, startLineText, rowsText, traceText, Carried, Writable}
 use Rattle.trace.proofs.HouseTexts.{version-line, start-line, day-fraction, rows-none, rows-more, trace-text, version-line-length, start-line-size, rows-size}
+use Rattle.trace.proofs.Numbers.{next-number, rows-numbered, from-one}
 use Rattle.trace.proofs.One.{one-trace}
 
 -- Line 2.
@@ -67,16 +68,16 @@ module _ (start : ℕ) where
 
 -- The rows.
 
-rows-spelled : {v : ℕ} {rs : List Record} (k : ℕ) → Each WellFormed rs → Carried v rs → 1 ≤ k → k + length rs ≤ lastNumber + 1
+rows-spelled : {v : ℕ} {rs : List Record} (k : ℕ) → Each WellFormed rs → Carried v rs → (1 ≤ length rs → 1 ≤ k) → k + length rs ≤ lastNumber + 1
     → Body v k rs (rowsText v k rs)
 rows-spelled k none none l h = rw rows-none over
 rows-spelled {v} k (more {r = r} {rs = rs} f fs) (more c cs) l h =
     let n : k ≤ lastNumber = omega arith in
     let s = row-size f c n in
-    let w = row-spelled f c l n in
+    let w = row-spelled f c (l (omega arith)) n in
     let i : All Inside (rowText v k r) = all-map (λ b q. record { cr = q .0; lf = q .1 }) (row-plain w) in
     row (record { first = record { inside = i; ended = rows-more v k r rs }; short = omega arith }) w
-    (rows-spelled (k + 1) fs cs (omega arith) (omega arith))
+    (rows-spelled (k + 1) fs cs (λ m. omega arith) (omega arith))
 
 -- The house spelling of a trace that can be written is spelled by that trace.
 pub there : {t : Trace} → Writable t → Spells t (traceText t)
@@ -84,20 +85,21 @@ there {t} w =
     let v = w .version in
     record {
       first = versionLineText (t .version);
-      after-first = startLineText (t .start) ++ (13 ∷ 10 ∷ rowsText (t .version) 1 (t .records));
+      after-first = startLineText (t .start) ++ (13 ∷ 10 ∷ rowsText (t .version) (t .first) (t .records));
       one = record {
         first = record { inside = rw version-line (version-line-inside v); ended = trace-text t };
         short = omega (arith, version-line-length (t .version));
       };
       version = rw version-line (version-line-text v);
       second = startLineText (t .start);
-      after-second = rowsText (t .version) 1 (t .records);
+      after-second = rowsText (t .version) (t .first) (t .records);
       two = record {
         first = record { inside = start-inside (t .start); ended = refl };
         short = omega (arith, start-line-size (t .start) (w .start));
       };
       start = start-spelled (t .start) (w .start);
-      body = rows-spelled 1 (w .formed) (w .carried) (omega arith) (omega (arith, w .few));
+      body = rows-spelled (t .first) (w .formed) (w .carried) (from-one (w .numbered)) (next-number (w .numbered));
+      numbered = w .numbered;
     }
 
 -- It is within the size limit.
@@ -105,8 +107,8 @@ pub there-size : {t : Trace} → Writable t → length (traceText t) ≤ sizeLim
 there-size {t} w =
     let v = version-line-length (t .version) in
     let s = start-line-size (t .start) (w .start) in
-    let r = rows-size 1 (w .formed) (w .carried) (omega (arith, w .few)) in
-    simp (trace-text, length-append) (omega (arith, w .few))
+    let r = rows-size (t .first) (w .formed) (w .carried) (next-number (w .numbered)) in
+    simp (trace-text, length-append) (omega (arith, rows-numbered (w .numbered)))
 
 -- What the rows of a text say of their records.
 
@@ -120,25 +122,26 @@ carried over = none
 carried (comment l c h) = carried h
 carried (row l w h) = more (row-carried w) (carried h)
 
--- The last number is at most 999,999.
-numbered : {v k : ℕ} {rs : List Record} {text : List ℕ} → Body v k rs text → k ≤ lastNumber + 1 → k + length rs ≤ lastNumber + 1
-numbered over l = omega arith
-numbered (comment m c h) l = numbered h l
-numbered (row m w h) l = let n = row-number w in omega (arith, numbered h (omega arith))
+-- That the numbers of the rows are within their limits they say themselves: the first number adds to them only that it is 0 where there are none.
+last-numbered : {v k : ℕ} {rs : List Record} {text : List ℕ} → Body v k rs text → k ≤ lastNumber + 1 → k + length rs ≤ lastNumber + 1
+last-numbered over l = omega arith
+last-numbered (comment m c h) l = last-numbered h l
+last-numbered (row m w h) l = let n = row-number w in omega (arith, last-numbered h (omega arith))
 
--- Whatever number its first row has, a trace that is spelled can be written.
-spelled-writable : {number : ℕ} {t : Trace} {text : List ℕ} → 1 ≤ number → number ≤ lastNumber + 1 → SpellsFrom number t text → Writable t
-spelled-writable l h a = record {
-  version = a .version .is;
-  start = a .start .gives .limit;
-  few = omega (arith, numbered (a .body) h);
-  formed = formed (a .body);
-  carried = carried (a .body);
-}
+pub body-numbered : {v k : ℕ} {rs : List Record} {text : List ℕ} → Body v k rs text → 1 ≤ length rs → FirstNumber k (length rs)
+body-numbered over h = absurd (omega arith)
+body-numbered (comment m c b) h = body-numbered b h
+body-numbered (row m w b) h = let n = row-number w in some-rows h (n .0) (last-numbered (row m w b) (omega arith))
 
 -- Any trace that was read can be written.
 pub read-writable : {t : Trace} {text : List ℕ} → Spells t text → Writable t
-read-writable a = spelled-writable (omega arith) (omega arith) a
+read-writable a = record {
+  version = a .version .is;
+  start = a .start .gives .limit;
+  numbered = a .numbered;
+  formed = formed (a .body);
+  carried = carried (a .body);
+}
 
 -- Two traces with one house spelling are one trace.
 pub one-house : {t u : Trace} → Writable t → Writable u → traceText t ≡ traceText u → t ≡ u

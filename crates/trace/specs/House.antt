@@ -5,14 +5,13 @@ use lib.ListN.{length}
 use Rattle.base.specs.Text.{semicolon, point, cr, lf}
 use Rattle.digits.specs.House.{decimalText, paddedText}
 use Rattle.clock.specs.Start.{dayMs, startLimit}
-use Rattle.fields.specs.Columns.{lastNumber}
 use Rattle.record.specs.declared.Record.{Record}
 use Rattle.record.specs.Record.{WellFormed}
 use Rattle.records.specs.Records.{Each}
 use Rattle.row.specs.Versions.{Version, versionText, Carries}
 use Rattle.row.specs.House.{rowText}
 use Rattle.lines.specs.Lines.{startText}
-use Rattle.trace.specs.Trace.{Trace}
+use Rattle.trace.specs.Trace.{Trace, FirstNumber}
 
 -- `;` and the version's text, without blanks: line 1.
 unfoldable pub versionLineText : ℕ → List ℕ
@@ -34,7 +33,7 @@ rowsText version k (r ∷ rs) = rowText version k r ++ (cr ∷ lf ∷ rowsText v
 -- The whole text.
 unfoldable pub traceText : Trace → List ℕ
 traceText t =
-    versionLineText (t .version) ++ (cr ∷ lf ∷ (startLineText (t .start) ++ (cr ∷ lf ∷ rowsText (t .version) 1 (t .records))))
+    versionLineText (t .version) ++ (cr ∷ lf ∷ (startLineText (t .start) ++ (cr ∷ lf ∷ rowsText (t .version) (t .first) (t .records))))
 
 -- Every record is one that the version can carry.
 abbrev pub Carried : ℕ → List Record → Type 0
@@ -44,6 +43,6 @@ Carried version rs = Each (λ r. Carries r version) rs
 pub record Writable (t : Trace) : Type 0 where
   pub version : Version (t .version)
   pub start : t .start ≤ startLimit
-  pub few : length (t .records) ≤ lastNumber
+  pub numbered : FirstNumber (t .first) (length (t .records))
   pub formed : Each WellFormed (t .records)
   pub carried : Carried (t .version) (t .records)

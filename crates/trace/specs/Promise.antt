@@ -13,10 +13,10 @@ use Rattle.trace.specs.declared.Outcome.the-variants as outcome
 use Rattle.lines.specs.Lines.{lineLimit, FirstLine, DollarLine}
 use Rattle.trace.specs.Trace.{sizeLimit, Trace, Line, Spells, Begins}
 
--- Number, place, version, start, rows and first step back for each answer.
+-- Number, place, version, start, rows, first step back and first number for each answer.
 abbrev pub readNumbers : Outcome → List ℕ
-readNumbers (outcome.Done v s n b) = 0 ∷ 0 ∷ v ∷ s ∷ n ∷ b ∷ []
-readNumbers (outcome.Refused n p) = n ∷ p ∷ 0 ∷ 0 ∷ 0 ∷ 0 ∷ []
+readNumbers (outcome.Done v s n b f) = 0 ∷ 0 ∷ v ∷ s ∷ n ∷ b ∷ f ∷ []
+readNumbers (outcome.Refused n p) = n ∷ p ∷ 0 ∷ 0 ∷ 0 ∷ 0 ∷ 0 ∷ []
 
 -- The text is n ended lines.
 pub data EndedLines : ℕ → List ℕ → Type 0 where
@@ -63,7 +63,7 @@ pub data ReadPromise (text before a after : List ℕ) : Type 0 where
   large : sizeLimit < length text → a ≡ readNumbers (outcome.Refused 1 0) → after ≡ before → ReadPromise text before a after
   -- a trace is spelled as it, and there is room: that trace is handed out
   done : {t : Trace} → length text ≤ sizeLimit → Spells t text → 20 * length (t .records) ≤ length before
-      → a ≡ readNumbers (outcome.Done (t .version) (t .start) (length (t .records)) (stepBack (t .records)))
+      → a ≡ readNumbers (outcome.Done (t .version) (t .start) (length (t .records)) (stepBack (t .records)) (t .first))
       → after ≡ packed (t .records) ++ drop (20 * length (t .records)) before → ReadPromise text before a after
   -- a trace is spelled as it, and there is no room
   no-room : {t : Trace} → length text ≤ sizeLimit → Spells t text → length before < 20 * length (t .records)

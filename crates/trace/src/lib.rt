@@ -9,6 +9,7 @@ use record::of_fields;
 use record::put_record;
 use records::back_after;
 use row::head_lines;
+use row_reader::expected_number;
 use row_reader::no_window;
 use row_reader::row_in;
 use row_reader::window;
@@ -34,6 +35,7 @@ pub enum Outcome {
         start: u64,
         rows: u64,
         step_back: u64,
+        first: u64,
     },
     Refused {
         number: u64,
@@ -53,9 +55,9 @@ pub enum Heading {
     Bad { number: u64, place: u64 },
 }
 
-// The whole text: how many rows; or a refusal.
+// The whole text: how many rows, and the number of the first, or 0 if there is none; or a refusal.
 pub enum Judged {
-    Good { rows: u64 },
+    Good { rows: u64, first: u64 },
     Bad { number: u64, place: u64 },
 }
 
@@ -208,14 +210,16 @@ fn other_at(text: &[u8], at: usize) -> Other
     }
 }
 
-// The first pass, from line 3 on: every line is judged, and the rows are counted.
+// The first pass, from line 3 on: every line is judged, and the rows are counted. `first + rows` is the number that is expected next: 0 before the
+// first row, which may have any.
 fn judge(text: &[u8], from: usize, version: u64, start: u64, hex: &[u8; 256]) -> Judged
     requires { ⌜ Headed (now text) from version start × (length (now text) ≤ sizeLimit) × HexTable (now hex) ⌝ }
-    ensures { λ j. ⌜ Judges 1 (now (text .entry)) version start j ⌝ }
+    ensures { λ j. ⌜ Judges (now (text .entry)) version start j ⌝ }
 {
     let mut at = from;
     let mut place = head_lines(version);
     let mut rows: u64 = 0;
+    let mut first: u64 = 0;
     let mut w = no_window();
     let mut base = from;
     let mut fields = [0u64; 7];
@@ -223,7 +227,8 @@ fn judge(text: &[u8], from: usize, version: u64, start: u64, hex: &[u8; 256]) ->
     while at < text.len() {
         place += 1;
         base = window_at(text, at, base, &mut w);
-        let next = row_at(text, at, version, rows + 1, base, &w, hex, &mut fields);
+        let k = expected_number(&w, at - base, first + rows);
+        let next = row_at(text, at, version, k, base, &w, hex, &mut fields);
         if next == 0 {
             let l = other_at(text, at);
             match l {
@@ -235,18 +240,27 @@ fn judge(text: &[u8], from: usize, version: u64, start: u64, hex: &[u8; 256]) ->
                 }
             }
         } else {
+            first = k - rows;
             rows += 1;
             at = next;
         }
     }
-    Judged::Good { rows }
+    Judged::Good { rows, first }
 }
 
 // The second pass: the records of the rows are packed into the output, which has room for them, and the first step back is found. No line is
 // refused any more: what starts with `;` is a comment, and all else a row.
-fn fill(text: &[u8], from: usize, version: u64, start: u64, hex: &[u8; 256], out: &mut [u8]) -> u64
-    requires { ⌜ Headed (now text) from version start × RecordsFit 1 (now text) (now out) version start × HexTable (now hex) ⌝ }
-    ensures { λ b. ⌜ Filled 1 (now (text .entry)) (now (out .entry)) (now (out .exit)) b ⌝ }
+fn fill(
+    text: &[u8],
+    from: usize,
+    version: u64,
+    start: u64,
+    first: u64,
+    hex: &[u8; 256],
+    out: &mut [u8],
+) -> u64
+    requires { ⌜ Headed (now text) from version start × RecordsFit (now text) (now out) version start first × HexTable (now hex) ⌝ }
+    ensures { λ b. ⌜ Filled (now (text .entry)) (now (out .entry)) (now (out .exit)) b ⌝ }
 {
     let mut at = from;
     let mut done: u64 = 0;
@@ -270,11 +284,11 @@ fn fill(text: &[u8], from: usize, version: u64, start: u64, hex: &[u8; 256], out
             }
         } else {
             base = window_at(text, at, base, &mut w);
-            done += 1;
-            let next = row_at(text, at, version, done, base, &w, hex, &mut fields);
+            let next = row_at(text, at, version, first + done, base, &w, hex, &mut fields);
             if next == 0 {
                 return 0;
             }
+            done += 1;
             put_record(out, o, of_fields(&fields));
             back = back_after(back, done, last, fields[0]);
             last = fields[0];
@@ -293,19 +307,20 @@ fn body(text: &[u8], at: usize, version: u64, start: u64, out: &mut [u8]) -> Out
     let hex = hex_table();
     let j = judge(text, at, version, start, &hex);
     match j {
-        Judged::Good { rows } => {
+        Judged::Good { rows, first } => {
             if out.len() as u64 / 20 < rows {
                 return Outcome::Refused {
                     number: 8,
                     place: 0,
                 };
             }
-            let back = fill(text, at, version, start, &hex, out);
+            let back = fill(text, at, version, start, first, &hex, out);
             Outcome::Done {
                 version,
                 start,
                 rows,
                 step_back: back,
+                first,
             }
         }
         Judged::Bad { number, place } => Outcome::Refused { number, place },

@@ -6,6 +6,7 @@ use mathlib.Core.List.{List, [], _∷_, _++_, append-assoc}
 use native.Mathlib.Decide.{ℕ-discrete}
 use native.Mathlib.Omega.{arith}
 use lib.ListN.{length, take, drop, length-append}
+use Rattle.fields.specs.Columns.{lastNumber}
 use Rattle.record.specs.declared.Record.{Record}
 use Rattle.record.specs.Record.{Packs}
 use Rattle.records.specs.Records.{none}
@@ -15,11 +16,16 @@ use Rattle.row.specs.Versions.{Carries}
 use Rattle.row.specs.House.{rowText}
 use Rattle.trace.specs.House.{rowsText, Carried}
 use Rattle.trace.proofs.HouseTexts.{rows-none}
+use Rattle.trace.proofs.Numbers.{next-number, from-one}
 use Rattle.trace_writer.specs.declared.Size.the-variants as size
-use Rattle.trace_writer.specs.Promise.{FirstMisfit}
+use Rattle.trace_writer.specs.Promise.{FirstMisfit, NumberFits}
 use Rattle.trace_writer.specs.inner.Passes.{withEnd, RowBytes, carried, misfit, MisfitAfter, Unfit, MeasuresRows}
 use Rattle.trace_writer.specs.inner.Passes
 use Rattle.trace_writer.proofs.Rows.{rows-snoc}
+
+-- The next row has one of the numbers.
+pub row-numbered : {first at k : ℕ} {s : List ℕ} → Through s at k → NumberFits first s → at + 20 ≤ length s → (1 ≤ first + k) × (first + k ≤ lastNumber)
+row-numbered m n h = let p = m .place in (omega (arith, from-one n (omega arith)), omega (arith, next-number n))
 
 -- The first row has number `first`, and `wrong` is the first misfit, or 0.
 pub record Measuring (version first : ℕ) (s : List ℕ) (at k bytes wrong : ℕ) : Type 0 where

@@ -15,27 +15,30 @@ use Rattle.row.specs.Versions.{Carries}
 use Rattle.row.specs.House.{rowText}
 use Rattle.trace.specs.House.{rowsText, Carried}
 use Rattle.trace.proofs.HouseTexts.{rows-none, rows-more}
+use Rattle.trace.proofs.Numbers.{next-number, from-one}
 use Rattle.trace_writer.specs.inner.Passes.{RowsFit, RowsPut}
 use Rattle.trace_writer.proofs.Rows.{rows-snoc}
 
--- The first row has number `first`, and k + 1 is that of the next.
+-- The first row has number `first`, and k is that of the next.
 pub record Putting (version first : ℕ) (s old out : List ℕ) (from at k p : ℕ) : Type 0 where
   pub records : Ahead s at
   pub carried : Carried version (records .after)
-  pub counted : k + 1 ≡ first + length (records .before)
-  pub few : k + length (records .after) ≤ lastNumber
+  pub counted : k ≡ first + length (records .before)
+  pub low : 1 ≤ length (records .after) → 1 ≤ k
+  pub few : k + length (records .after) ≤ lastNumber + 1
   pub wrote : Wrote old out from p (rowsText version first (records .before))
-  pub room : p + length (rowsText version (k + 1) (records .after)) ≤ length old
+  pub room : p + length (rowsText version k (records .after)) ≤ length old
   pub same : length out ≡ length old
 
-pub putting : {version first from k : ℕ} {s old : List ℕ} → k + 1 ≡ first → RowsFit version first s old from → Putting version first s old old from 0 k from
-putting q f = record {
+pub putting : {version first from : ℕ} {s old : List ℕ} → RowsFit version first s old from → Putting version first s old old from 0 first from
+putting f = record {
   records = ahead (f .packs);
   carried = f .carried;
   counted = omega arith;
-  few = let a = f .few in omega arith;
+  low = from-one (f .numbered);
+  few = next-number (f .numbered);
   wrote = rw rows-none (record { next = omega arith; stored = refl });
-  room = rw q (f .room);
+  room = f .room;
   same = refl;
 }
 
@@ -46,20 +49,20 @@ module _ {version first : ℕ} {s old out : List ℕ} {from at k p : ℕ} (f : P
   all : f .records .after ≡ r ∷ rest
   all = after-next (f .records) h b
 
-  text : length (rowsText version (k + 1) (f .records .after)) ≡ length (rowText version (k + 1) r) + 2 + length (rowsText version (k + 1 + 1) rest)
+  text : length (rowsText version k (f .records .after)) ≡ length (rowText version k r) + 2 + length (rowsText version (k + 1) rest)
   text =
-      ap length (ap (rowsText version (k + 1)) all ∙ rows-more version (k + 1) r rest)
-      ∙ length-append (rowText version (k + 1) r) (13 ∷ 10 ∷ rowsText version (k + 1 + 1) rest) ∙ omega arith
+      ap length (ap (rowsText version k) all ∙ rows-more version k r rest)
+      ∙ length-append (rowText version k r) (13 ∷ 10 ∷ rowsText version (k + 1) rest) ∙ omega arith
 
   -- The next row can be put.
-  pub next-row : WellFormed r × Carries r version × (1 ≤ k + 1) × (k + 1 ≤ lastNumber)
-  next-row = (b .formed, each-head (rw all at (f .carried)), omega arith, omega (arith, f .few, ap length all))
+  pub next-row : WellFormed r × Carries r version × (1 ≤ k) × (k ≤ lastNumber)
+  next-row = (b .formed, each-head (rw all at (f .carried)), f .low (omega (arith, ap length all)), omega (arith, f .few, ap length all))
 
-  pub next-room : p + length (rowText version (k + 1) r) + 2 ≤ length out
+  pub next-room : p + length (rowText version k r) + 2 ≤ length out
   next-room = omega (arith, f .room, f .same, text)
 
   -- It is put.
-  pub put-more : {mid new : List ℕ} {q e : ℕ} → Wrote out mid p q (rowText version (k + 1) r) → Wrote mid new q e (13 ∷ 10 ∷ []) → length new ≡ length old
+  pub put-more : {mid new : List ℕ} {q e : ℕ} → Wrote out mid p q (rowText version k r) → Wrote mid new q e (13 ∷ 10 ∷ []) → length new ≡ length old
       → Putting version first s old new from (at + 20) (k + 1) e
   put-more u v l =
       let w = then u v in
@@ -67,9 +70,10 @@ module _ {version first : ℕ} {s old out : List ℕ} {from at k p : ℕ} (f : P
         records = ahead-more (f .records) h b;
         carried = each-tail (rw all at (f .carried));
         counted = omega (arith, f .counted, length-append (f .records .before) (r ∷ []));
+        low = λ h. omega arith;
         few = omega (arith, f .few, ap length all);
         wrote = rw (rows-snoc, ← (f .counted)) (then (f .wrote) w);
-        room = omega (arith, f .room, text, w .next, length-append (rowText version (k + 1) r) (13 ∷ 10 ∷ []));
+        room = omega (arith, f .room, text, w .next, length-append (rowText version k r) (13 ∷ 10 ∷ []));
         same = l;
       }
 

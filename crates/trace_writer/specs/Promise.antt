@@ -1,5 +1,5 @@
--- What `write` promises for every version, start, bytes of records and output. In words: docs/FORMAT.md, section 11.
-use Prim.Native.Nat.{ℕ, _+_, _≤_, _<_}
+-- What `write` promises for every version, start, first number, bytes of records and output. In words: docs/FORMAT.md, section 11.
+use Prim.Native.Nat.{ℕ, _+_, _/_, _≤_, _<_}
 use mathlib.Core.Path.{_≡_}
 use mathlib.Core.List.{List, [], _∷_, _++_}
 use lib.ListN.{length, drop}
@@ -7,7 +7,7 @@ use Rattle.clock.specs.Start.{startLimit}
 use Rattle.record.specs.declared.Record.{Record}
 use Rattle.records.specs.Records.{packed, Whole, PacksAll, FirstMalformed}
 use Rattle.row.specs.Versions.{Version, Carries}
-use Rattle.trace.specs.Trace.{traceOf}
+use Rattle.trace.specs.Trace.{traceOf, FirstNumber}
 use Rattle.trace.specs.House.{traceText, Carried, Writable}
 use Rattle.trace_writer.specs.declared.Written.{Written}
 use Rattle.trace_writer.specs.declared.Written.the-variants as written
@@ -27,27 +27,33 @@ pub record FirstMisfit (version : ℕ) (rs : List Record) (place : ℕ) : Type 0
   pub misfit : Carries this version → ⊥
   pub at : place ≡ length before + 1
 
--- What is refused whatever the output, with which number at which place. In the table's order: each says that those before it do not hold.
-pub data WriteStopped (version start : ℕ) (s : List ℕ) : ℕ → ℕ → Type 0 where
-  no-records : (Whole s → ⊥) → WriteStopped version start s 20 0
-  no-version : Whole s → (Version version → ⊥) → WriteStopped version start s 21 0
-  late : Whole s → Version version → startLimit < start → WriteStopped version start s 22 0
-  malformed : {place : ℕ} → Whole s → Version version → start ≤ startLimit → FirstMalformed s place → WriteStopped version start s 23 place
-  misfit : {rs : List Record} {place : ℕ} → Whole s → Version version → start ≤ startLimit → PacksAll rs s → FirstMisfit version rs place
-      → WriteStopped version start s 24 place
+-- The first number is one of a trace with as many rows as there are records in s.
+abbrev pub NumberFits : ℕ → List ℕ → Type 0
+NumberFits first s = FirstNumber first (length s / 20)
 
--- `write` of a version, a start and the bytes s, into an output that held `before` and then holds `after`, gives the numbers a.
-pub data WritePromise (version start : ℕ) (s before a after : List ℕ) : Type 0 where
-  -- one of 20 to 24
-  refused : {n p : ℕ} → WriteStopped version start s n p → a ≡ writeNumbers (written.Refused n p) → after ≡ before
-      → WritePromise version start s before a after
+-- What is refused whatever the output, with which number at which place. In the table's order: each says that those before it do not hold.
+pub data WriteStopped (version start first : ℕ) (s : List ℕ) : ℕ → ℕ → Type 0 where
+  no-records : (Whole s → ⊥) → WriteStopped version start first s 20 0
+  no-version : Whole s → (Version version → ⊥) → WriteStopped version start first s 21 0
+  late : Whole s → Version version → startLimit < start → WriteStopped version start first s 22 0
+  no-number : Whole s → Version version → start ≤ startLimit → (NumberFits first s → ⊥) → WriteStopped version start first s 26 0
+  malformed : {place : ℕ} → Whole s → Version version → start ≤ startLimit → NumberFits first s → FirstMalformed s place
+      → WriteStopped version start first s 23 place
+  misfit : {rs : List Record} {place : ℕ} → Whole s → Version version → start ≤ startLimit → NumberFits first s → PacksAll rs s
+      → FirstMisfit version rs place → WriteStopped version start first s 24 place
+
+-- `write` of a version, a start, a first number and the bytes s, into an output that held `before` and then holds `after`, gives the numbers a.
+pub data WritePromise (version start first : ℕ) (s before a after : List ℕ) : Type 0 where
+  -- one of 20 to 24, or 26
+  refused : {n p : ℕ} → WriteStopped version start first s n p → a ≡ writeNumbers (written.Refused n p) → after ≡ before
+      → WritePromise version start first s before a after
   -- everything good, and the output too short
-  no-room : {rs : List Record} → Writable (traceOf version start rs) → s ≡ packed rs
-      → length before < length (traceText (traceOf version start rs))
-      → a ≡ writeNumbers (written.Refused 25 0) → after ≡ before → WritePromise version start s before a after
+  no-room : {rs : List Record} → Writable (traceOf version start first rs) → s ≡ packed rs
+      → length before < length (traceText (traceOf version start first rs))
+      → a ≡ writeNumbers (written.Refused 25 0) → after ≡ before → WritePromise version start first s before a after
   -- the house spelling, and behind it what was there
-  done : {rs : List Record} → Writable (traceOf version start rs) → s ≡ packed rs
-      → length (traceText (traceOf version start rs)) ≤ length before
-      → a ≡ writeNumbers (written.Done (length (traceText (traceOf version start rs))))
-      → after ≡ traceText (traceOf version start rs) ++ drop (length (traceText (traceOf version start rs))) before
-      → WritePromise version start s before a after
+  done : {rs : List Record} → Writable (traceOf version start first rs) → s ≡ packed rs
+      → length (traceText (traceOf version start first rs)) ≤ length before
+      → a ≡ writeNumbers (written.Done (length (traceText (traceOf version start first rs))))
+      → after ≡ traceText (traceOf version start first rs) ++ drop (length (traceText (traceOf version start first rs))) before
+      → WritePromise version start first s before a after

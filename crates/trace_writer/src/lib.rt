@@ -11,6 +11,7 @@ use digits::pairs;
 use digits::put_decimal;
 use digits::put_padded;
 use digits::renew;
+use fields::LAST_NUMBER;
 use record::Record;
 use record::packed_at;
 use records::Entry;
@@ -23,14 +24,16 @@ use row_writer::row_length;
 ghost use mathlib.Core.Path.{_≡_};
 ghost use Prim.Native.Nat.{_+_, _≤_};
 ghost use lib.ListN.{length};
+ghost use Rattle.base.specs.inner.Decides.{Decides};
 ghost use Rattle.base.specs.inner.Wrote.{Wrote};
 ghost use Rattle.clock.specs.Start.{startLimit};
 ghost use Rattle.fields.specs.Columns.{lastNumber};
 ghost use Rattle.record.specs.Record.{WellFormed};
 ghost use Rattle.records.specs.Records.{Whole};
 ghost use Rattle.row.specs.Versions.{Version};
+ghost use Rattle.trace.specs.Trace.{FirstNumber};
 ghost use Rattle.trace.specs.House.{versionLineText, startLineText};
-ghost use Rattle.trace_writer.specs.Promise.{writeNumbers, WritePromise};
+ghost use Rattle.trace_writer.specs.Promise.{writeNumbers, NumberFits, WritePromise};
 ghost use Rattle.trace_writer.specs.inner.Passes.{withEnd, headText, RowBytes, MisfitAfter, MeasuresRows, RowsFit, RowsPut};
 
 // The answer of `write`.
@@ -104,10 +107,29 @@ fn misfit_after(misfit: u64, k: u64, n: usize) -> u64
     0
 }
 
-// The first pass: every record is judged, and the rows are measured.
-fn measure_rows(version: u64, records: &[u8]) -> Size
-    requires { ⌜ Whole (now records) ⌝ }
-    ensures { λ m. ⌜ MeasuresRows version 1 (now (records .entry)) m ⌝ }
+// Whether a trace of so many rows can have this first number.
+fn is_first(first: u64, rows: u64) -> bool
+    ensures { λ b. ⌜ Decides (FirstNumber first rows) b ⌝ }
+{
+    if rows == 0 {
+        return first == 0;
+    }
+    if first == 0 {
+        return false;
+    }
+    if LAST_NUMBER < first {
+        return false;
+    }
+    if LAST_NUMBER + 1 - first < rows {
+        return false;
+    }
+    true
+}
+
+// The first pass: every record is judged, and the rows are measured, from the first number on.
+fn measure_rows(version: u64, first: u64, records: &[u8]) -> Size
+    requires { ⌜ Whole (now records) × NumberFits first (now records) ⌝ }
+    ensures { λ m. ⌜ MeasuresRows version first (now (records .entry)) m ⌝ }
 {
     let mut at: usize = 0;
     let mut k: u64 = 0;
@@ -122,7 +144,7 @@ fn measure_rows(version: u64, records: &[u8]) -> Size
                 place: k,
             };
         };
-        let n = row_bytes(version, k, r);
+        let n = row_bytes(version, first + k - 1, r);
         misfit = misfit_after(misfit, k, n);
         size += n;
         at += 20;
@@ -136,40 +158,40 @@ fn measure_rows(version: u64, records: &[u8]) -> Size
     Size::Bytes(size)
 }
 
-// The second pass: the rows are put behind `from`, where there is room. No record is judged any more. The digits of the row number over ten
-// are kept in `tens` from row to row, and those of the offset's whole seconds in `seconds`: `last` is their number.
-fn put_rows(version: u64, records: &[u8], out: &mut [u8], from: usize)
-    requires { ⌜ RowsFit version 1 (now records) (now out) from ⌝ }
-    ensures { λ _. ⌜ RowsPut version 1 (now (records .entry)) (now (out .entry)) (now (out .exit)) from ⌝ }
+// The second pass: the rows are put behind `from`, where there is room, the first with the number `first`. No record is judged any more. The digits
+// of the row number over ten are kept in `tens` from row to row, and those of the offset's whole seconds in `seconds`: `last` is their number.
+fn put_rows(version: u64, first: u64, records: &[u8], out: &mut [u8], from: usize)
+    requires { ⌜ RowsFit version first (now records) (now out) from ⌝ }
+    ensures { λ _. ⌜ RowsPut version first (now (records .entry)) (now (out .entry)) (now (out .exit)) from ⌝ }
 {
     let mut at = 0;
-    let mut k: u64 = 0;
+    let mut k = first;
     let mut p = from;
     let pairs = pairs(Letters::Capital);
     let mut last: u64 = 0;
     let mut tens = [0u8; 20];
     let mut seconds = [0u8; 20];
-    let mut t = put_decimal(&mut tens, 0, 0);
+    let mut t = put_decimal(&mut tens, 0, k / 10);
     let mut u = put_decimal(&mut seconds, 0, 0);
     while at < records.len() {
-        k += 1;
-        t = renew(&mut tens, t, (k - 1) / 10, k / 10);
         let r = packed_at(records, at);
         let second = r.offset / 1000 / 1000;
         u = renew(&mut seconds, u, last, second);
         last = second;
         let q = put_row(out, p, version, k, r, &tens, t, &seconds, u, &pairs);
         p = put_end(out, q);
+        k += 1;
+        t = renew(&mut tens, t, (k - 1) / 10, k / 10);
         at += 20;
     }
 }
 
 // Both passes, where all but the records and the room is judged.
-fn put_trace(version: u64, start: u64, records: &[u8], out: &mut [u8]) -> Written
-    requires { ⌜ Whole (now records) × Version version × (start ≤ startLimit) ⌝ }
-    ensures { λ w. ⌜ WritePromise version start (now (records .entry)) (now (out .entry)) (writeNumbers w) (now (out .exit)) ⌝ }
+fn put_trace(version: u64, start: u64, first: u64, records: &[u8], out: &mut [u8]) -> Written
+    requires { ⌜ Whole (now records) × Version version × (start ≤ startLimit) × NumberFits first (now records) ⌝ }
+    ensures { λ w. ⌜ WritePromise version start first (now (records .entry)) (now (out .entry)) (writeNumbers w) (now (out .exit)) ⌝ }
 {
-    let m = measure_rows(version, records);
+    let m = measure_rows(version, first, records);
     match m {
         Size::Bytes(rows) => {
             let bytes = head_length(version, start) + rows;
@@ -181,16 +203,16 @@ fn put_trace(version: u64, start: u64, records: &[u8], out: &mut [u8]) -> Writte
             }
             let p = put_version_line(out, 0, version);
             let q = put_start_line(out, p, start);
-            put_rows(version, records, out, q);
+            put_rows(version, first, records, out, q);
             Written::Done { bytes }
         }
         Size::Bad { number, place } => Written::Refused { number, place },
     }
 }
 
-// Writes a trace from packed records.
-pub fn write(version: u64, start: u64, records: &[u8], out: &mut [u8]) -> Written
-    ensures { λ w. ⌜ WritePromise version start (now (records .entry)) (now (out .entry)) (writeNumbers w) (now (out .exit)) ⌝ }
+// Writes a trace from packed records, its rows numbered from `first` on.
+pub fn write(version: u64, start: u64, first: u64, records: &[u8], out: &mut [u8]) -> Written
+    ensures { λ w. ⌜ WritePromise version start first (now (records .entry)) (now (out .entry)) (writeNumbers w) (now (out .exit)) ⌝ }
 {
     if !whole(records) {
         return Written::Refused {
@@ -210,5 +232,11 @@ pub fn write(version: u64, start: u64, records: &[u8], out: &mut [u8]) -> Writte
             place: 0,
         };
     }
-    put_trace(version, start, records, out)
+    if !is_first(first, records.len() as u64 / 20) {
+        return Written::Refused {
+            number: 26,
+            place: 0,
+        };
+    }
+    put_trace(version, start, first, records, out)
 }

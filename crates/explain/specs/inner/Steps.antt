@@ -9,11 +9,11 @@ use Rattle.fields.specs.Parted.{Parted}
 use Rattle.fields.specs.Runs.{All}
 use Rattle.fields.specs.inner.Window.{Solid}
 use Rattle.row.specs.declared.Step.{Step}
-use Rattle.row.specs.Row.{RowFields, Row}
+use Rattle.row.specs.Row.{Expected, Row}
 use Rattle.row.specs.inner.Stages.{Continues, Good}
 use Rattle.explain.specs.declared.Explained.{Explained}
 use Rattle.explain.specs.declared.Explained.the-variants as explained
-use Rattle.explain.specs.Explain.{WrongField, EndedEarly}
+use Rattle.explain.specs.Explain.{ExpectedFields, WrongField, EndedEarly}
 
 -- The bytes of a field.
 pub record Field (f : List ℕ) : Type 0 where
@@ -31,11 +31,11 @@ pub record FieldsBefore (version number : ℕ) (line : List ℕ) (C : List (List
   pub front : List (List ℕ)
   pub count : length front ≡ i
   pub parted : (fs : List (List ℕ)) → Parted fs (drop at line) → Parted (front ++ fs) line
-  pub onto : (fs : List (List ℕ)) (r : Record) → RowFields version number r (front ++ fs) → C fs r
-  pub back : (fs : List (List ℕ)) (r : Record) → C fs r → RowFields version number r (front ++ fs)
+  pub onto : (fs : List (List ℕ)) (r : Record) → ExpectedFields version number r (front ++ fs) → C fs r
+  pub back : (fs : List (List ℕ)) (r : Record) → C fs r → ExpectedFields version number r (front ++ fs)
 
--- What is found of a line, where number 30 says that it is a row.
+-- What is found of a line, where number 30 says that it is a row that is expected.
 abbrev pub FoundIn : ℕ → ℕ → List ℕ → Explained → Type 0
 FoundIn version number line (explained.Wrong i) = WrongField version number line i
 FoundIn version number line (explained.Early i) = EndedEarly version number line i
-FoundIn version number line (explained.Refused n) = (n ≡ 30) × ((r : Record) × Row version number r line)
+FoundIn version number line (explained.Refused n) = (n ≡ 30) × ((k : ℕ) × (r : Record) × Expected number k × Row version k r line)

@@ -24,5 +24,5 @@ body-spec =
     (λ c. let a = c .before .before .before .before .before .before .before .before .before .before .before .before .before .before .args in
     let g = rw (c .before .before .before .before .before .before .before .j .given .1) at (c .before .before .before .before .before .before .before .before .before .judge .ensures) in
     done (c .before .before .before .before .before .before .before .before .before .before .before .before .before .before .pre .1) (g .1) (omega (arith, g .2, c .before .before .before .before .before .if1 .left))
-    (ap₂ (λ (n b : ℕ). 0 ∷ 0 ∷ a .version ∷ a .start ∷ n ∷ b ∷ []) (g .2) (c .before .before .fill .ensures .back _ (g .1))) (c .before .before .fill .ensures .bytes _ (g .1)))
+    (ap₂ (λ (n b : ℕ). 0 ∷ 0 ∷ a .version ∷ a .start ∷ n ∷ b ∷ c .before .before .before .before .before .before .before .j .given .0 .1 .0 ∷ []) (g .2) (c .before .before .fill .ensures .back _ (g .1))) (c .before .before .fill .ensures .bytes _ (g .1)))
     (λ c. let g = rw (c .before .j2 .given .1) at (c .before .before .before .judge .ensures) in refused (c .before .before .before .before .before .before .before .before .pre .1) g refl refl))

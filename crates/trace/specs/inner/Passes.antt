@@ -18,7 +18,7 @@ use Rattle.trace.specs.declared.Heading.{Heading}
 use Rattle.trace.specs.declared.Heading.the-variants as heading
 use Rattle.trace.specs.declared.Judged.{Judged}
 use Rattle.trace.specs.declared.Judged.the-variants as judged
-use Rattle.trace.specs.Trace.{Trace, traceOf, Line, SpellsFrom, Spells}
+use Rattle.trace.specs.Trace.{Trace, traceOf, Line, Spells}
 use Rattle.trace.specs.Promise.{EndedLines, RefusedAtLine}
 
 -- The line stands at `at`, and the next one at `next`.
@@ -77,25 +77,25 @@ pub record Versioned (text : List ℕ) (at version : ℕ) : Type 0 where
 pub record Headed (text : List ℕ) (at version start : ℕ) : Type 0 where
   pub within : at ≤ length text
   pub lines : EndedLines (headLines version) (take at text)
-  pub spelled : Spells (traceOf version start []) (take at text)
+  pub spelled : Spells (traceOf version start 0 []) (take at text)
 
 abbrev pub Heads : List ℕ → Heading → Type 0
 Heads text (heading.Body v s at) = Headed text at v s
 Heads text (heading.Bad n p) = RefusedAtLine text n p
 
--- The records of the whole text, whose first row has number `first`, or its refusal.
-abbrev pub Judges : ℕ → List ℕ → ℕ → ℕ → Judged → Type 0
-Judges first text version start (judged.Good rows) =
-    (rs : List Record) × SpellsFrom first (traceOf version start rs) text × (rows ≡ length rs)
-Judges first text version start (judged.Bad n p) = RefusedAtLine text n p
+-- The first number and the records of the whole text, or its refusal.
+abbrev pub Judges : List ℕ → ℕ → ℕ → Judged → Type 0
+Judges text version start (judged.Good rows first) =
+    (rs : List Record) × Spells (traceOf version start first rs) text × (rows ≡ length rs)
+Judges text version start (judged.Bad n p) = RefusedAtLine text n p
 
 -- Some trace is spelled, and the output has room for its records.
-pub record RecordsFit (first : ℕ) (text out : List ℕ) (version start : ℕ) : Type 0 where
+pub record RecordsFit (text out : List ℕ) (version start first : ℕ) : Type 0 where
   pub records : List Record
-  pub spelled : SpellsFrom first (traceOf version start records) text
+  pub spelled : Spells (traceOf version start first records) text
   pub room : 20 * length records ≤ length out
 
 -- The output holds the records of whatever trace the text spells, and behind them what was there; b is their first step back.
-pub record Filled (first : ℕ) (text before after : List ℕ) (b : ℕ) : Type 0 where
-  pub bytes : (t : Trace) → SpellsFrom first t text → after ≡ packed (t .records) ++ drop (20 * length (t .records)) before
-  pub back : (t : Trace) → SpellsFrom first t text → b ≡ stepBack (t .records)
+pub record Filled (text before after : List ℕ) (b : ℕ) : Type 0 where
+  pub bytes : (t : Trace) → Spells t text → after ≡ packed (t .records) ++ drop (20 * length (t .records)) before
+  pub back : (t : Trace) → Spells t text → b ≡ stepBack (t .records)

@@ -17,20 +17,20 @@ pub put-trace-spec : {M : Type 1} → statement M
 put-trace-spec =
     tie.close
     (tie.spec
-    (λ c κs. c .before .before .pre .0)
+    (λ c κs. let p = c .before .before .pre in (p .0, p .3))
     (λ c. search needs)
     (λ c κs. search needs)
     (λ c.
     let g = rw (c .before .before .m .given .1) at (c .before .before .before .before .measure-rows .ensures) in
     let e = c .before .before .before .before .before .before .before .pre in
-    let w = writable (e .0) (e .1) (e .2) (g .1) (g .2) in
+    let w = writable (e .1) (e .2) (e .3) (g .1) (g .2) in
     omega (arith, g .3, rows-few w, c .head-length .ensures .1))
     (λ c.
     let g = rw (c .before .before .before .m .given .1) at (c .before .before .before .before .before .measure-rows .ensures) in
     let a = c .before .before .before .before .before .before .before .before .args in
     let e = c .before .before .before .before .before .before .before .before .pre in
-    let w = writable (e .0) (e .1) (e .2) (g .1) (g .2) in
-    no-room w (g .1 .bytes) (omega (arith, g .3, trace-length (a .version) (a .start) (g .0), c .before .head-length .ensures .0, c .if1 .taken)) refl refl)
+    let w = writable (e .1) (e .2) (e .3) (g .1) (g .2) in
+    no-room w (g .1 .bytes) (omega (arith, g .3, trace-length (a .version) (a .start) (a .first) (g .0), c .before .head-length .ensures .0, c .if1 .taken)) refl refl)
     (λ c κs.
     let g = rw (c .before .before .before .before .m .given .1) at (c .before .before .before .before .before .before .measure-rows .ensures) in
     let s = c .before .before .before .before .before .before .before .before .before in
@@ -44,12 +44,12 @@ put-trace-spec =
     let g = rw (c .before .before .before .before .before .before .before .before .before .before .before .before .m .given .1) at (c .before .before .before .before .before .before .before .before .before .before .before .before .before .before .measure-rows .ensures) in
     let a = c .before .before .before .before .before .before .before .before .before .before .before .before .before .before .before .before .before .args in
     let e = c .before .before .before .before .before .before .before .before .before .before .before .before .before .before .before .before .before .pre in
-    let w = writable (e .0) (e .1) (e .2) (g .1) (g .2) in
+    let w = writable (e .1) (e .2) (e .3) (g .1) (g .2) in
     record {
       records = g .0;
       packs = g .1;
       carried = g .2;
-      few = omega (arith, w .few);
+      numbered = w .numbered;
       room = omega (arith, g .3, length-append (withEnd (versionLineText (a .version))) (withEnd (startLineText (a .start))), c .before .before .before .before .before .before .before .before .before .before .head-length .ensures .0, c .before .before .before .before .before .before .before .before .before .if1 .left, c .before .before .before .before .before .before .before .put-version-line .ensures .next, c .before .before .before .put-start-line .ensures .next);
     })
     (λ c. search needs)
@@ -58,13 +58,13 @@ put-trace-spec =
     let g = rw (c .before .before .before .before .before .before .before .before .before .before .before .before .before .before .before .m .given .1) at (c .before .before .before .before .before .before .before .before .before .before .before .before .before .before .before .before .before .measure-rows .ensures) in
     let a = c .before .before .before .before .before .before .before .before .before .before .before .before .before .before .before .before .before .before .before .before .args in
     let e = c .before .before .before .before .before .before .before .before .before .before .before .before .before .before .before .before .before .before .before .before .pre in
-    let w = writable (e .0) (e .1) (e .2) (g .1) (g .2) in
-    let t = traceText (traceOf (a .version) (a .start) (g .0)) in
-    let n : length t ≡ c .before .before .before .before .before .before .before .before .before .before .before .before .before .head-length .result + c .before .before .before .before .before .before .before .before .before .before .before .before .before .before .before .m .given .0 .0 = omega (arith, trace-length (a .version) (a .start) (g .0), g .3, c .before .before .before .before .before .before .before .before .before .before .before .before .before .head-length .ensures .0) in
+    let w = writable (e .1) (e .2) (e .3) (g .1) (g .2) in
+    let t = traceText (traceOf (a .version) (a .start) (a .first) (g .0)) in
+    let n : length t ≡ c .before .before .before .before .before .before .before .before .before .before .before .before .before .head-length .result + c .before .before .before .before .before .before .before .before .before .before .before .before .before .before .before .m .given .0 .0 = omega (arith, trace-length (a .version) (a .start) (a .first) (g .0), g .3, c .before .before .before .before .before .before .before .before .before .before .before .before .before .head-length .ensures .0) in
     let l : length t ≤ length (a .out .now) = omega (arith, c .before .before .before .before .before .before .before .before .before .before .before .before .if1 .left) in
     done w (g .1 .bytes) l (ap (λ (x : ℕ). 0 ∷ 0 ∷ x ∷ []) (sym n))
-    (all-written (a .version) (a .start) (g .0) (g .1) (c .before .before .before .before .before .before .before .before .before .before .put-version-line .ensures) (c .before .before .before .before .before .before .put-start-line .ensures) (c .before .before .put-rows .ensures) l))
+    (all-written (a .version) (a .start) (a .first) (g .0) (g .1) (c .before .before .before .before .before .before .before .before .before .before .put-version-line .ensures) (c .before .before .before .before .before .before .put-start-line .ensures) (c .before .before .put-rows .ensures) l))
     (λ c.
     let u = rw (c .before .m2 .given .1) at (c .before .before .before .measure-rows .ensures) in
     let e = c .before .before .before .before .before .before .pre in
-    refused (unfit-stopped (e .0) (e .1) (e .2) u) refl refl))
+    refused (unfit-stopped (e .0) (e .1) (e .2) (e .3) u) refl refl))

@@ -6,11 +6,11 @@ use mathlib.Core.List.{List, [], _∷_, _++_}
 use lib.ListN.{length}
 use Rattle.base.specs.Text.{cr, lf}
 use Rattle.base.specs.inner.Wrote.{Wrote}
-use Rattle.fields.specs.Columns.{lastNumber}
 use Rattle.record.specs.declared.Record.{Record}
 use Rattle.records.specs.Records.{PacksAll, FirstMalformed}
 use Rattle.row.specs.Versions.{Carries}
 use Rattle.row.specs.House.{rowText}
+use Rattle.trace.specs.Trace.{FirstNumber}
 use Rattle.trace.specs.House.{versionLineText, startLineText, rowsText, Carried}
 use Rattle.trace_writer.specs.declared.Size.{Size}
 use Rattle.trace_writer.specs.declared.Size.the-variants as size
@@ -50,7 +50,7 @@ pub record RowsFit (version first : ℕ) (s out : List ℕ) (at : ℕ) : Type 0 
   pub records : List Record
   pub packs : PacksAll records s
   pub carried : Carried version records
-  pub few : first + length records ≤ lastNumber + 1
+  pub numbered : FirstNumber first (length records)
   pub room : at + length (rowsText version first records) ≤ length out
 
 -- Whatever records the bytes are, their rows were put at `at`.
