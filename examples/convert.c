@@ -129,7 +129,7 @@ static int put_quoted(struct bytes field)
     return done && printf(field.len > 40 ? "\"..." : "\"") >= 0;
 }
 
-/* Prints what is wrong with a field. */
+/* Prints what is wrong with a field. The number is the one that the row must have, or 0 where it may be any. */
 static int put_wrong(struct bytes line, uint64_t version, uint64_t number, uint64_t field)
 {
     char name[COLUMN];
@@ -137,12 +137,18 @@ static int put_wrong(struct bytes line, uint64_t version, uint64_t number, uint6
     int done = printf("field %" PRIu64, field) >= 0;
     done = done && (name[0] == 0 ? printf(" is one too many: ") : printf(" (%s) is wrong: ", name)) >= 0;
     done = done && put_quoted(field_of(line, field));
-    return done && (field == 1 ? printf(" instead of \"%" PRIu64 ")\"\r\n", number) : printf("\r\n")) >= 0;
+    if (field == 1 && number == 0)
+        done = done && printf(" instead of a number from 1 to 999999 and \")\"") >= 0;
+    else if (field == 1)
+        done = done && printf(" instead of \"%" PRIu64 ")\"", number) >= 0;
+    return done && printf("\r\n") >= 0;
 }
 
 /* Prints what is missing behind the last field. */
 static int put_early(struct bytes line, uint64_t version, uint64_t number, uint64_t field)
 {
+    if (field == 0 && number == 0)
+        return printf("the line is empty: a row number from 1 to 999999 and \")\" was expected\r\n") >= 0;
     if (field == 0)
         return printf("the line is empty: row number \"%" PRIu64 ")\" was expected\r\n", number) >= 0;
     char last[COLUMN], next[COLUMN];
@@ -151,29 +157,32 @@ static int put_early(struct bytes line, uint64_t version, uint64_t number, uint6
     return printf("the row ended early after field %" PRIu64 " (%s): %s was expected next\r\n", field, last, next) >= 0;
 }
 
-/* Prints what is wrong with the line at which a text was refused with 7. The lines before it are a trace, which has the version, and as many rows
- * as stand before; the room for records is enough for those of the whole text. */
+/* Prints what is wrong with the line at which a text was refused with 7. The lines before it are a trace, which has the version, the first number and
+ * as many rows as stand before (both 0 where none does, and any number will do); the room for records is enough for those of the whole text. */
 static int put_explanation(const uint8_t *text, uint64_t place, uint8_t *records, size_t records_len)
 {
     struct bytes line = line_of(text, place);
-    uint64_t read[6], why[4];
+    uint64_t read[7], why[4];
     bo_read(text, (size_t)(line.at - text), records, records_len, read);
-    uint64_t version = read[2], number = read[4] + 1;
+    uint64_t version = read[2], number = read[6] + read[4];
     if (number > BUSHINGOWL_MOST_ROWS)
-        return printf("row 999,999 stands before it, and no row may follow\r\n") >= 0;
+        return printf("row number 999999 stands before it, and no row may follow\r\n") >= 0;
     bo_explain(line.at, line.len, (uint32_t)version, number, why);
     if (why[2] == BUSHINGOWL_WRONG_FIELD)
         return put_wrong(line, version, number, why[3]);
     return put_early(line, version, number, why[3]);
 }
 
-/* What a trace holds beside its records. */
-static int put_head(const uint64_t read[6])
+/* What a trace holds beside its records. The row that steps back is given by the number that it has in the file. */
+static int put_head(const uint64_t read[7])
 {
-    int done = printf("version %" PRIu64 ", start %" PRIu64 ", %" PRIu64 " rows, ", read[2], read[3], read[4]) >= 0;
-    if (read[5] == 0)
-        return done && printf("no step back\r\n") >= 0;
-    return done && printf("first step back at row %" PRIu64 "\r\n", read[5]) >= 0;
+    uint64_t rows = read[4], back = read[5], first = read[6];
+    int done = printf("version %" PRIu64 ", start %" PRIu64 ", %" PRIu64 " rows", read[2], read[3], rows) >= 0;
+    if (rows > 0)
+        done = done && printf(" numbered from %" PRIu64, first) >= 0;
+    if (back == 0)
+        return done && printf(", no step back\r\n") >= 0;
+    return done && printf(", first step back at row number %" PRIu64 "\r\n", first + back - 1) >= 0;
 }
 
 /* What is printed for a text: status is 0 if it is a trace, and 1 if it is refused. */
@@ -183,7 +192,7 @@ static int put_text(const uint8_t *text, size_t len, int *status)
     if (rows > BUSHINGOWL_MOST_ROWS)
         rows = BUSHINGOWL_MOST_ROWS;
     uint8_t *records = room(rows * BUSHINGOWL_RECORD);
-    uint64_t read[6];
+    uint64_t read[7];
     bo_read(text, len, records, rows * BUSHINGOWL_RECORD, read);
     *status = 1;
     if (read[0] != 0) {

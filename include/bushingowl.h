@@ -27,6 +27,13 @@
  * 25,569). An offset counts microseconds from the start. The stamp of a record is start plus offset. Offsets of a trace
  * may go back from row to row.
  *
+ * ROW NUMBERS
+ *
+ * The first row of a trace has any number from 1 to 999,999, and each next row one more; behind number 999,999 no row
+ * may follow. The first number is part of the trace, 0 where there are no rows: bo_read gives it, and bo_write is given
+ * it. The packed records do not hold it. The first step back, and the record of a refusal, are positions, from 1
+ * whatever the first number is: the row at position p has the number first + p - 1.
+ *
  * THE PACKED RECORD
  *
  * 20 bytes, 160 bits, the most significant first. A list of records is one after the other, with nothing between.
@@ -62,16 +69,20 @@
  *                the bytes of the one record are not 20                                 bo_unpack
  *   21   0       the version is neither 11 nor 12                                       bo_write, bo_explain
  *   22   0       the start is above 8,639,999,999,999                                   bo_write, bo_export
+ *   26   0       the first number is 0 with records, or not 0 without, or the last      bo_write
+ *                row's would be above 999,999
  *   23   record  the first record that is not well formed                               bo_write, bo_export
  *        1       the record is not well formed                                          bo_unpack, bo_pack
  *   24   record  the first record that the version can't carry: 11 needs bus 0 and      bo_write
  *                an offset of whole 100 microseconds, 12 needs bus 1 to 16
  *   25   0       everything is good, and the output too short                           bo_write, bo_export, bo_pack
- *   30   0       the expected number is not 1 to 999,999, or the line holds CR or LF,   bo_explain
- *                or it is a row of this version and number, or a comment
+ *   30   0       the expected number is above 999,999, or the line holds CR or LF, or   bo_explain
+ *                it is a row of this version and number (of any number, if 0 is
+ *                expected), or a comment
  *
  * Of several, bo_read gives 1 first, then that of the earliest line (on one line 2, then 3, then the rest), and 8 last.
- * The others give the one that stands first in this table; bo_write tests all records for 23 before any for 24.
+ * The others give the one that stands first in this table, in which 26 comes before 23; bo_write tests all records for
+ * 23 before any for 24.
  * docs/FORMAT.md says what a row, a comment and the first two lines are.
  */
 #ifndef BUSHINGOWL_H
@@ -85,8 +96,8 @@ extern "C" {
 #endif
 
 /* The state of this interface: one more whenever a function is added, or its parameters or answer change. 2 added
- * bo_explain. */
-#define BUSHINGOWL_API 2
+ * bo_explain; 3 gave bo_read and bo_write the first number. */
+#define BUSHINGOWL_API 3
 
 /* The kinds of a record. Only data frames give a line of an export. */
 #define BUSHINGOWL_DATA_RECEIVED 0
@@ -106,7 +117,8 @@ extern "C" {
 /* The most bytes of a text that bo_read takes. */
 #define BUSHINGOWL_MOST_TEXT 134217728
 
-/* The most rows of a text, and so the most records of a list: row numbers end at 999,999. */
+/* The largest number of a row, and so the most rows of a text and the most records of a list. A text whose first row
+ * has the number n has at most BUSHINGOWL_MOST_ROWS - n + 1 rows. */
 #define BUSHINGOWL_MOST_ROWS 999999
 
 /* The fewest bytes of a row with its CR LF, which are those of `1) 0.0 Rx 0000 0`. So a text of n bytes has at most
@@ -134,18 +146,22 @@ extern "C" {
 /* Reads a trace text into packed records.
  * out: BUSHINGOWL_RECORD bytes for each row; text_len / BUSHINGOWL_LEAST_ROW * BUSHINGOWL_RECORD bytes are enough for
  *   any text, and so are BUSHINGOWL_MOST_ROWS * BUSHINGOWL_RECORD.
- * answer: number, place (a line), version (11 for 1.1, 12 for 1.2), start, rows, the first row, from 1, whose offset is
- *   below that of the row before it (0 if there is none).
+ * answer: number, place (a line), version (11 for 1.1, 12 for 1.2), start, rows, first step back, first number.
+ *   The first step back is the position, from 1, of the first row whose offset is below that of the row before it (0 if
+ *   there is none). It is not that row's number in the text, which is answer[6] + answer[5] - 1.
+ *   The first number is that of the first row in the text, 1 to 999,999 (0 if there are no rows).
  * Refusals: 1 to 8. */
-void bo_read(const uint8_t *text, size_t text_len, uint8_t *out, size_t out_len, uint64_t answer[6]);
+void bo_read(const uint8_t *text, size_t text_len, uint8_t *out, size_t out_len, uint64_t answer[7]);
 
-/* Writes packed records as a trace text, which bo_read reads back as the same version, start and records.
+/* Writes packed records as a trace text, which bo_read reads back as the same version, start, records and first number.
  * version: 11 for 1.1, 12 for 1.2.
+ * first: the number of the first row, from 1; 0 where there are no records. Each next row gets one more, and the last
+ *   at most 999,999. To write what was read, give what bo_read gave in answer[6].
  * out: BUSHINGOWL_MOST_HEADER + records_len / BUSHINGOWL_RECORD * BUSHINGOWL_MOST_ROW bytes are enough.
- * answer: number, place (a record), bytes written.
- * Refusals: 20 to 25. */
-void bo_write(uint32_t version, uint64_t start, const uint8_t *records, size_t records_len, uint8_t *out, size_t out_len,
-              uint64_t answer[3]);
+ * answer: number, place (the position of a record, from 1, not its row's number), bytes written.
+ * Refusals: 20 to 26, in the order 20, 21, 22, 26, 23, 24, 25. */
+void bo_write(uint32_t version, uint64_t start, uint64_t first, const uint8_t *records, size_t records_len,
+              uint8_t *out, size_t out_len, uint64_t answer[3]);
 
 /* Exports the data frames among packed records as lines of Telemotive ASCII; the other records are left out. A stamp is
  * cut to 100 microseconds, and bus 0 is written as channel 1.
@@ -174,17 +190,19 @@ void bo_pack(const uint64_t fields[7], uint8_t *out, size_t out_len, uint64_t an
  * line: its bytes without CR LF, as many as there are; bo_read's limit of 250 does not count here. The time grows in
  *   proportion to the line's length, and the stack does not grow.
  * version: 11 for 1.1, 12 for 1.2.
- * number: the number that the row must have, one more than there are rows before it. The lines before the refused one
- *   are a trace themselves, so that bo_read of them gives both: the version in answer[2], the rows in answer[4].
- * answer: number, place (always 0), reason, field. With number 0 the line is no row, and one of two reasons is given:
- *   BUSHINGOWL_WRONG_FIELD: some row of this version and number begins with the fields before this one, and none with
- *     this one as well.
- *   BUSHINGOWL_ENDED_EARLY: some row begins with all fields of the line, and none ends with them; the field is the last
- *     one, or 0 where the line is empty or blank.
+ * number: the number that is expected of the row; 0 for a first row, which may have any number from 1 to 999,999. The
+ *   lines before the refused one are a trace themselves, so that bo_read of them gives both: the version in answer[2],
+ *   and the expected number as answer[6] + answer[4], the first number plus the rows. Where no row stands before, both
+ *   are 0, and so is the expected number.
+ * answer: number, place (always 0), reason, field. Accepted: the line is no row, and one of two reasons is given:
+ *   BUSHINGOWL_WRONG_FIELD: some row of this version and number (if 0 is expected, of this version and some number)
+ *     begins with the fields before this one, and none with this one as well.
+ *   BUSHINGOWL_ENDED_EARLY: some such row begins with all fields of the line, and none ends with them; the field is the
+ *     last one, or 0 where the line is empty or blank.
  * Refusals: 21, 30. A line that starts with ; is a comment, unless its first byte behind ; and blanks is $: that is a
- *   wrong field 1. A trace has at most BUSHINGOWL_MOST_ROWS rows, so that behind row 999,999 bo_read refuses with 7
- *   whatever is no comment, and bo_explain refuses the number 1,000,000 with 30: no field is wrong there, it is one row
- *   too many. */
+ *   wrong field 1. Behind a row of number 999,999 bo_read takes only comments, however few the rows are. Of a line that
+ *   it refuses there with 7 the expected number is 1,000,000, which bo_explain refuses with 30: no field is wrong, but
+ *   no number is left. */
 void bo_explain(const uint8_t *line, size_t line_len, uint32_t version, uint64_t number, uint64_t answer[4]);
 
 #ifdef __cplusplus

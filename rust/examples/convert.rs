@@ -44,12 +44,17 @@ fn contents(name: &OsStr) -> io::Result<Vec<u8>> {
 fn convert(text: &[u8]) -> Result<Vec<u8>, Refused> {
     let (trace, records) = read_to_vec(text)?;
     let (_, lines) = export_to_vec(trace.start, &records)?;
-    let (version, start, rows) = (trace.version, trace.start, trace.rows);
+    let (version, start, rows, first) = (trace.version, trace.start, trace.rows, trace.first);
+    let numbered = match rows {
+        0 => String::new(),
+        _ => format!(" numbered from {first}"),
+    };
     let back = match trace.step_back {
         None => "no step back".to_string(),
-        Some(row) => format!("first step back at row {row}"),
+        // The number that the row has in the file.
+        Some(row) => format!("first step back at row number {}", first + row as u64 - 1),
     };
-    let head = format!("version {version}, start {start}, {rows} rows, {back}\r\n");
+    let head = format!("version {version}, start {start}, {rows} rows{numbered}, {back}\r\n");
     Ok([head.as_bytes(), &lines].concat())
 }
 

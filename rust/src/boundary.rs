@@ -18,6 +18,7 @@ mod c {
         pub fn bo_write(
             version: u32,
             start: u64,
+            first: u64,
             records: *const u8,
             records_len: usize,
             out: *mut u8,
@@ -47,9 +48,9 @@ mod c {
 /// What an answer holds before the call. Every call sets every number.
 const UNSET: u64 = u64::MAX;
 
-pub fn read(text: &[u8], out: &mut [u8]) -> [u64; 6] {
-    let mut answer = [UNSET; 6];
-    // SAFETY: see above; the answer has room for the six numbers of the header.
+pub fn read(text: &[u8], out: &mut [u8]) -> [u64; 7] {
+    let mut answer = [UNSET; 7];
+    // SAFETY: see above; the answer has room for the seven numbers of the header.
     unsafe {
         c::bo_read(
             text.as_ptr(),
@@ -62,13 +63,14 @@ pub fn read(text: &[u8], out: &mut [u8]) -> [u64; 6] {
     answer
 }
 
-pub fn write(version: u32, start: u64, records: &[u8], out: &mut [u8]) -> [u64; 3] {
+pub fn write(version: u32, start: u64, first: u64, records: &[u8], out: &mut [u8]) -> [u64; 3] {
     let mut answer = [UNSET; 3];
     // SAFETY: see above; the answer has room for the three numbers of the header.
     unsafe {
         c::bo_write(
             version,
             start,
+            first,
             records.as_ptr(),
             records.len(),
             out.as_mut_ptr(),

@@ -38,11 +38,12 @@ pub struct Explanation {
     pub field: u64,
 }
 
-/// Tells why a line, given without its CR LF, is not the row with this number in this version. Fields are what stands
-/// between blanks. A line may have any length; the time grows in proportion to it.
+/// Tells why a line, given without its CR LF, is not the row with this number in this version; with the number 0, why it
+/// is no row of any number, which a first row may have. Fields are what stands between blanks. A line may have any
+/// length; the time grows in proportion to it.
 ///
 /// Refused with the numbers 21 and 30: there is nothing to explain if the line is that row or a comment or holds CR or
-/// LF, or if no row may have this number.
+/// LF, or if the number is above [`MOST_ROWS`].
 ///
 /// ```
 /// use bushingowl::{explain, Explanation, RowReason};
@@ -51,6 +52,7 @@ pub struct Explanation {
 /// let early = Explanation { reason: RowReason::EndedEarly, field: 6 };
 /// assert_eq!(explain(b"2) 1500.250 2 Tx 18AB0001 1", 12, 2), Ok(early));
 /// assert_eq!(explain(b"2) 1500.250 2 Tx 18AB0001 0", 12, 2).unwrap_err().number(), 30);
+/// assert_eq!(explain(b"4117) 1500.250 2 Tx 18AB0001 9", 12, 0), Ok(wrong));
 /// ```
 pub fn explain(line: &[u8], version: u32, number: u64) -> Result<Explanation, Refused> {
     let [refusal, place, reason, field] = numbers::explain(line, version, number);
@@ -67,7 +69,8 @@ pub struct RowExplanation<'a> {
     pub line: u64,
     /// The version of the text: 11 for 1.1, 12 for 1.2.
     pub version: u32,
-    /// The number that the row must have, one more than there are rows before it.
+    /// The number that the row must have, one more than the row before it; 0 where none stands before it, and the number
+    /// may be any from 1 to [`MOST_ROWS`].
     pub number: u64,
     pub fault: RowFault<'a>,
 }
@@ -88,8 +91,8 @@ pub enum RowFault<'a> {
         /// What was expected next.
         next: Column,
     },
-    /// Whatever it holds: [`MOST_ROWS`] rows stand before it, and no row may follow.
-    TooManyRows,
+    /// Whatever it holds: the row before it has the number [`MOST_ROWS`], and no row may follow.
+    NoNumberLeft,
 }
 
 /// Tells what is wrong with the line at which [`read`] or [`read_to_vec`] refused a text with 7. It reads the lines before
@@ -112,9 +115,10 @@ pub fn explain_refusal(text: &[u8], refused: Refused) -> Option<RowExplanation<'
     }
     let (before, line) = cut(text, refused.place)?;
     let (trace, _) = read_to_vec(before).ok()?;
-    let number = trace.rows as u64 + 1;
-    let fault = if trace.rows == MOST_ROWS {
-        RowFault::TooManyRows
+    // Where no row stands before, both are 0: any number will do.
+    let number = trace.first + trace.rows as u64;
+    let fault = if number > MOST_ROWS as u64 {
+        RowFault::NoNumberLeft
     } else {
         fault_of(line, trace.version, number)?
     };
@@ -172,6 +176,12 @@ impl fmt::Display for RowExplanation<'_> {
             } => {
                 let bytes = Quoted(bytes);
                 match column {
+                    Column::Number if number == 0 => {
+                        write!(
+                            f,
+                            "field {field} ({column}) is wrong: {bytes} instead of a number from 1 to 999999 and \")\""
+                        )
+                    }
                     Column::Number => {
                         write!(
                             f,
@@ -184,7 +194,13 @@ impl fmt::Display for RowExplanation<'_> {
             }
             RowFault::EndedEarly {
                 column: None, next, ..
-            } => write!(f, "the line is empty: {next} \"{number})\" was expected"),
+            } => match number {
+                0 => write!(
+                    f,
+                    "the line is empty: a {next} from 1 to 999999 and \")\" was expected"
+                ),
+                _ => write!(f, "the line is empty: {next} \"{number})\" was expected"),
+            },
             RowFault::EndedEarly {
                 field,
                 column: Some(column),
@@ -193,8 +209,11 @@ impl fmt::Display for RowExplanation<'_> {
                 f,
                 "the row ended early after field {field} ({column}): {next} was expected next"
             ),
-            RowFault::TooManyRows => {
-                write!(f, "row 999,999 stands before it, and no row may follow")
+            RowFault::NoNumberLeft => {
+                write!(
+                    f,
+                    "row number 999999 stands before it, and no row may follow"
+                )
             }
         }
     }

@@ -14,6 +14,10 @@
 //! A version is 11 for 1.1 and 12 for 1.2. A packed record has 20 bytes, which [`Record`] lists by their bits; a list of
 //! records is one after the other.
 //!
+//! The first row of a trace has any number from 1 to [`MOST_ROWS`], and each next row one more. The first number is part
+//! of the trace, and not of its records: reading gives it ([`Read::first`]), and writing is given it. [`Read::write`] and
+//! [`Read::write_to_vec`] pass it on from one to the other.
+//!
 //! ```
 //! let text = b";$FILEVERSION=1.1\r\n;$STARTTIME=36585.5\r\n1) 2.5 Rx 07FF 1 0a\r\n";
 //! let (trace, records) = bushingowl::read_to_vec(text)?;
@@ -44,7 +48,7 @@ use refused::accepted;
 pub const RECORD: usize = 20;
 /// The most bytes of a text that [`read`] takes.
 pub const MOST_TEXT: usize = 134_217_728;
-/// The most rows of a text, and so the most records of a list: row numbers end there.
+/// The largest number of a row, and so the most rows of a text and the most records of a list.
 pub const MOST_ROWS: usize = 999_999;
 /// The fewest bytes of a row with its CR LF, which are those of `1) 0.0 Rx 0000 0`. So a text has at most
 /// `text.len() / LEAST_ROW` rows.
@@ -71,8 +75,48 @@ pub struct Read {
     /// Milliseconds from 30 December 1899.
     pub start: u64,
     pub rows: usize,
-    /// The first row, from 1, whose offset is below that of the row before it.
+    /// The position among the rows, from 1, of the first one whose offset is below that of the row before it. Its number
+    /// in the text is `first + step_back - 1`.
     pub step_back: Option<usize>,
+    /// The number of the first row, from 1; 0 where there are no rows.
+    pub first: u64,
+}
+
+impl Read {
+    /// Writes packed records as a trace text with the version, the start and the first number that were read: as
+    /// [`write()`] does, which takes these three from the caller. Nothing else of what was read is used, so that the
+    /// records may be others.
+    ///
+    /// Refused as [`write()`] is: with 26 where the first number does not fit other records, as when none are left.
+    ///
+    /// ```
+    /// let text = b";$FILEVERSION=1.1\r\n;$STARTTIME=0.0\r\n4117) 2.5 Rx 07FF 0\r\n";
+    /// let (trace, records) = bushingowl::read_to_vec(text)?;
+    /// let mut written = [0; bushingowl::MOST_HEADER + bushingowl::MOST_ROW];
+    /// let bytes = trace.write(&records, &mut written)?;
+    /// assert!(written[..bytes].ends_with(b"\r\n4117) 2.5 Rx 07FF 0\r\n"));
+    /// # Ok::<(), bushingowl::Refused>(())
+    /// ```
+    pub fn write(&self, records: &[u8], out: &mut [u8]) -> Result<usize, Refused> {
+        write(self.version, self.start, self.first, records, out)
+    }
+
+    /// The same, and hands the text out. Refused as [`write_to_vec`] is.
+    ///
+    /// ```
+    /// let text = b";$FILEVERSION=1.2\r\n;$STARTTIME=36585.5\r\n; a selection\r\n\
+    ///     4117) 0.000 1 Rx 0123 2 0a ff\r\n4118) 1500.250 2 Tx 18AB0001 0\r\n";
+    /// let (trace, records) = bushingowl::read_to_vec(text)?;
+    /// assert_eq!((trace.first, trace.rows), (4117, 2));
+    /// let written = trace.write_to_vec(&records)?;
+    /// assert_eq!(written, b";$FILEVERSION=1.2\r\n;$STARTTIME=36585.5000000000\r\n\
+    ///     4117) 0.000 1 Rx 0123 2 0A FF\r\n4118) 1500.250 2 Tx 18AB0001 0\r\n");
+    /// assert_eq!(bushingowl::read_to_vec(&written)?, (trace, records));
+    /// # Ok::<(), bushingowl::Refused>(())
+    /// ```
+    pub fn write_to_vec(&self, records: &[u8]) -> Result<Vec<u8>, Refused> {
+        write_to_vec(self.version, self.start, self.first, records)
+    }
 }
 
 /// What an export gave.
@@ -94,19 +138,20 @@ pub struct Exported {
 /// let text = b";$FILEVERSION=1.2\r\n;$STARTTIME=36585.5\r\n1) 0.000 1 Rx 0123 2 0A FF\r\n";
 /// let mut records = [0xEE; 30];
 /// let trace = bushingowl::read(text, &mut records)?;
-/// assert_eq!((trace.version, trace.rows, trace.step_back), (12, 1, None));
+/// assert_eq!((trace.version, trace.rows, trace.step_back, trace.first), (12, 1, None, 1));
 /// assert_eq!(records[..14], [0, 0, 0, 0, 0, 0, 8, 0, 0, 4, 0x8C, 0x82, 0xBF, 0xC0]);
 /// assert_eq!(records[20..], [0xEE; 10]);
 /// # Ok::<(), bushingowl::Refused>(())
 /// ```
 pub fn read(text: &[u8], out: &mut [u8]) -> Result<Read, Refused> {
-    let [number, place, version, start, rows, step_back] = numbers::read(text, out);
+    let [number, place, version, start, rows, step_back, first] = numbers::read(text, out);
     accepted(number, place)?;
     Ok(Read {
         version: version as u32,
         start,
         rows: rows as usize,
         step_back: (step_back != 0).then_some(step_back as usize),
+        first,
     })
 }
 
@@ -116,7 +161,7 @@ pub fn read(text: &[u8], out: &mut [u8]) -> Result<Read, Refused> {
 ///
 /// ```
 /// let (trace, records) = bushingowl::read_to_vec(b";$FILEVERSION=1.2\r\n;$STARTTIME=0.0\r\n")?;
-/// assert_eq!((trace.rows, records.len()), (0, 0));
+/// assert_eq!((trace.rows, trace.first, records.len()), (0, 0, 0));
 /// # Ok::<(), bushingowl::Refused>(())
 /// ```
 pub fn read_to_vec(text: &[u8]) -> Result<(Read, Vec<u8>), Refused> {
@@ -127,19 +172,28 @@ pub fn read_to_vec(text: &[u8]) -> Result<(Read, Vec<u8>), Refused> {
     Ok((trace, records))
 }
 
-/// Writes packed records as a trace text, and gives the number of its bytes. [`read`] gives back the same version, start
-/// and records. `MOST_HEADER + records.len() / RECORD * MOST_ROW` bytes are enough.
+/// Writes packed records as a trace text, and gives the number of its bytes. [`read`] gives back the same version, start,
+/// first number and records. `MOST_HEADER + records.len() / RECORD * MOST_ROW` bytes are enough.
 ///
-/// Refused with the numbers 20 to 25, the lowest that applies.
+/// The first number is that of the first row, from 1, or 0 where there are no records. [`Read::write`] gives the one that
+/// was read.
+///
+/// Refused with the numbers 20 to 26: of several the first of 20, 21, 22, 26, 23, 24, 25.
 ///
 /// ```
 /// let mut text = [0; bushingowl::MOST_HEADER];
-/// let bytes = bushingowl::write(11, 43_200_000, &[], &mut text)?;
+/// let bytes = bushingowl::write(11, 43_200_000, 0, &[], &mut text)?;
 /// assert_eq!(&text[..bytes], b";$FILEVERSION=1.1\r\n;$STARTTIME=0.5000000000\r\n");
 /// # Ok::<(), bushingowl::Refused>(())
 /// ```
-pub fn write(version: u32, start: u64, records: &[u8], out: &mut [u8]) -> Result<usize, Refused> {
-    let [number, place, bytes] = numbers::write(version, start, records, out);
+pub fn write(
+    version: u32,
+    start: u64,
+    first: u64,
+    records: &[u8],
+    out: &mut [u8],
+) -> Result<usize, Refused> {
+    let [number, place, bytes] = numbers::write(version, start, first, records, out);
     accepted(number, place)?;
     Ok(bytes as usize)
 }
@@ -151,13 +205,18 @@ pub fn write(version: u32, start: u64, records: &[u8], out: &mut [u8]) -> Result
 /// ```
 /// use bushingowl::{read_to_vec, write_to_vec};
 /// let (trace, records) = read_to_vec(b"; $FILEVERSION=1.1\r\n;$STARTTIME=36585.5\r\n 1)  2.5 Rx 07ff 1 0a\r\n")?;
-/// let text = write_to_vec(trace.version, trace.start, &records)?;
-/// assert_eq!(text, b";$FILEVERSION=1.1\r\n;$STARTTIME=36585.5000000000\r\n1) 2.5 Rx 07FF 1 0A\r\n");
+/// let text = write_to_vec(trace.version, trace.start, 999_999, &records)?;
+/// assert_eq!(text, b";$FILEVERSION=1.1\r\n;$STARTTIME=36585.5000000000\r\n999999) 2.5 Rx 07FF 1 0A\r\n");
 /// # Ok::<(), bushingowl::Refused>(())
 /// ```
-pub fn write_to_vec(version: u32, start: u64, records: &[u8]) -> Result<Vec<u8>, Refused> {
+pub fn write_to_vec(
+    version: u32,
+    start: u64,
+    first: u64,
+    records: &[u8],
+) -> Result<Vec<u8>, Refused> {
     let mut text = vec![0; MOST_HEADER + record_count(records) * MOST_ROW];
-    let bytes = write(version, start, records, &mut text)?;
+    let bytes = write(version, start, first, records, &mut text)?;
     text.truncate(bytes);
     Ok(text)
 }

@@ -4,14 +4,14 @@
 
 use crate::boundary;
 
-/// Number, place, version, start, rows, first row that steps back.
-pub fn read(text: &[u8], out: &mut [u8]) -> [u64; 6] {
+/// Number, place, version, start, rows, first step back (a position among the rows, from 1), first number.
+pub fn read(text: &[u8], out: &mut [u8]) -> [u64; 7] {
     boundary::read(text, out)
 }
 
 /// Number, place, bytes.
-pub fn write(version: u32, start: u64, records: &[u8], out: &mut [u8]) -> [u64; 3] {
-    boundary::write(version, start, records, out)
+pub fn write(version: u32, start: u64, first: u64, records: &[u8], out: &mut [u8]) -> [u64; 3] {
+    boundary::write(version, start, first, records, out)
 }
 
 /// Number, place, offset, bus, kind, extended, ID, length, data.
@@ -29,7 +29,7 @@ pub fn export(start: u64, records: &[u8], out: &mut [u8]) -> [u64; 5] {
     boundary::export(start, records, out)
 }
 
-/// Number, place, reason, field.
+/// Number, place, reason, field. The row number that is given is the expected one, or 0 for a first row of any number.
 pub fn explain(line: &[u8], version: u32, number: u64) -> [u64; 4] {
     boundary::explain(line, version, number)
 }

@@ -37,14 +37,17 @@ pub enum Reason {
     NotCarried = 24,
     /// Everything is good, and the output too short.
     NoRoom = 25,
-    /// The expected number is not 1 to [`MOST_ROWS`](crate::MOST_ROWS), or the line holds CR or LF, or it is a row of this
-    /// version and number, or a comment.
+    /// The first number is 0 with records, or not 0 without, or the last row's would be above
+    /// [`MOST_ROWS`](crate::MOST_ROWS). It is given before 23.
+    WrongFirstNumber = 26,
+    /// The expected number is above [`MOST_ROWS`](crate::MOST_ROWS), or the line holds CR or LF, or it is a row of this
+    /// version and number (of any number, if 0 is expected), or a comment.
     Unexplained = 30,
 }
 
 impl Reason {
     /// The reasons in the order of their numbers.
-    pub const ALL: [Reason; 15] = [
+    pub const ALL: [Reason; 16] = [
         Reason::TextTooLong,
         Reason::LineNotEnded,
         Reason::LineTooLong,
@@ -59,6 +62,7 @@ impl Reason {
         Reason::NotWellFormed,
         Reason::NotCarried,
         Reason::NoRoom,
+        Reason::WrongFirstNumber,
         Reason::Unexplained,
     ];
 
@@ -117,7 +121,8 @@ impl fmt::Display for Refused {
             Reason::NotWellFormed => write!(f, "record {place} is not well formed"),
             Reason::NotCarried => write!(f, "the version can't carry record {place}"),
             Reason::NoRoom => write!(f, "the output is too short"),
-            Reason::Unexplained => write!(f, "the line is a row or a comment or holds CR or LF, or its number is not 1 to 999,999"),
+            Reason::WrongFirstNumber => write!(f, "the first number is 0 with records or not 0 without, or the last row's would be above 999,999"),
+            Reason::Unexplained => write!(f, "the line is a row or a comment or holds CR or LF, or its number is above 999,999"),
         }?;
         write!(f, " (refusal {})", self.number())
     }

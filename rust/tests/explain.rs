@@ -41,20 +41,49 @@ fn explained(text: &[u8]) -> RowExplanation<'_> {
     explain_refusal(text, refused).unwrap()
 }
 
-/// Holds lines that are not row 1 of this version to the reason, the field and the words.
+/// Row 1 of a text.
+fn row_1(version: u32) -> &'static str {
+    match version {
+        11 => "1) 0.0 Rx 0123 0\r\n",
+        _ => "1) 0.000 1 Rx 0123 0\r\n",
+    }
+}
+
+/// Holds lines that are not row 2 of this version to the reason, the field and the words.
 fn hold(version: u32, reason: RowReason, cases: &[(&str, u64, &str)]) {
+    hold_behind(
+        &[&head(version), row_1(version)].concat(),
+        version,
+        2,
+        reason,
+        cases,
+    );
+}
+
+/// Holds lines to the reason, the field and the words, behind lines after which this number is expected.
+fn hold_behind(
+    before: &str,
+    version: u32,
+    number: u64,
+    reason: RowReason,
+    cases: &[(&str, u64, &str)],
+) {
     for (line, field, words) in cases {
         let field = *field;
-        let answer = explain(line.as_bytes(), version, 1);
+        let answer = explain(line.as_bytes(), version, number);
         assert_eq!(answer, Ok(Explanation { reason, field }), "{line}");
-        let text = format!("{}{line}\r\n", head(version));
+        let text = format!("{before}{line}\r\n");
         let said = explained(text.as_bytes());
-        assert_eq!((said.line, said.version, said.number), (3, version, 1));
+        let place = before.lines().count() as u64 + 1;
+        assert_eq!(
+            (said.line, said.version, said.number),
+            (place, version, number)
+        );
         assert_eq!(said.to_string(), *words, "{line}");
         let given = match said.fault {
             RowFault::WrongField { field, .. } => (RowReason::WrongField, field),
             RowFault::EndedEarly { field, .. } => (RowReason::EndedEarly, field),
-            RowFault::TooManyRows => panic!("{line}"),
+            RowFault::NoNumberLeft => panic!("{line}"),
         };
         assert_eq!(given, (reason, field), "{line}");
     }
@@ -64,47 +93,47 @@ fn hold(version: u32, reason: RowReason, cases: &[(&str, u64, &str)]) {
 fn a_wrong_field_of_version_12() {
     #[rustfmt::skip]
     let cases = [
-        ("2) 0.000 1 Rx 0123 0", 1, r#"field 1 (row number) is wrong: "2)" instead of "1)""#),
-        ("01) 0.000 1 Rx 0123 0", 1, r#"field 1 (row number) is wrong: "01)" instead of "1)""#),
-        ("1 ) 0.000 1 Rx 0123 0", 1, r#"field 1 (row number) is wrong: "1" instead of "1)""#),
-        (" ;", 1, r#"field 1 (row number) is wrong: ";" instead of "1)""#),
-        ("1) 0.0 1 Rx 0123 0", 2, r#"field 2 (offset) is wrong: "0.0""#),
-        ("1) 00.000 1 Rx 0123 0", 2, r#"field 2 (offset) is wrong: "00.000""#),
-        ("1) 100000000000.000 1 Rx 0123 0", 2, r#"field 2 (offset) is wrong: "100000000000.000""#),
-        ("1) 0.000 0 Rx 0123 0", 3, r#"field 3 (bus) is wrong: "0""#),
-        ("1) 0.000 17 Rx 0123 0", 3, r#"field 3 (bus) is wrong: "17""#),
-        ("1) 0.000 Rx 0123 0", 3, r#"field 3 (bus) is wrong: "Rx""#),
-        ("1) 0.000 16 rx 0123 0", 4, r#"field 4 (type) is wrong: "rx""#),
-        ("1) 0.000 16 Warnng FFFFFFFF 4 00 00 00 08", 4, r#"field 4 (type) is wrong: "Warnng""#),
-        ("1) 0.000 1 Rx 123 0", 5, r#"field 5 (ID) is wrong: "123""#),
-        ("1) 0.000 1 Tx 0800 0", 5, r#"field 5 (ID) is wrong: "0800""#),
-        ("1) 0.000 1 Tx 20000000 0", 5, r#"field 5 (ID) is wrong: "20000000""#),
-        ("1) 0.000 1 Warng FFFFFFF 4 00 00 00 08", 5, r#"field 5 (ID) is wrong: "FFFFFFF""#),
-        ("1) 0.000 1 Error 00000001 4 00 02 00 00", 5, r#"field 5 (ID) is wrong: "00000001""#),
-        ("1) 0.000 1 Error 0003 4 00 02 00 00", 5, r#"field 5 (ID) is wrong: "0003""#),
-        ("1) 0.000 1 Rx 07FF 9", 6, r#"field 6 (length) is wrong: "9""#),
-        ("1) 0.000 1 Rx 1FFFFFFF 02 00 00", 6, r#"field 6 (length) is wrong: "02""#),
-        ("1) 0.000 1 Warng ffffFFFF 3 00 00 00", 6, r#"field 6 (length) is wrong: "3""#),
-        ("1) 0.000 1 Error 0008 5 00 02 00 00", 6, r#"field 6 (length) is wrong: "5""#),
-        ("1) 0.000 1 Rx 0123 0 0A", 7, r#"field 7 (RTR or nothing) is wrong: "0A""#),
-        ("1) 0.000 1 Rx 0123 1 A", 7, r#"field 7 (RTR or data byte 1 of 1) is wrong: "A""#),
-        ("1) 0.000 1 Rx 0123 2 rtr", 7, r#"field 7 (RTR or data byte 1 of 2) is wrong: "rtr""#),
-        ("1) 0.000 1 Rx 0123 2 0A RTR", 8, r#"field 8 (data byte 2 of 2) is wrong: "RTR""#),
-        ("1) 0.000 1 Tx 0123 8 0 1 2", 7, r#"field 7 (RTR or data byte 1 of 8) is wrong: "0""#),
-        ("1) 0.000 1 Tx 0123 8 00 11 22 33 44 55 66 7G", 14, r#"field 14 (data byte 8 of 8) is wrong: "7G""#),
-        ("1) 0.000 1 Rx 0123 2 0A FF 00", 9, r#"field 9 is one too many: "00""#),
-        ("1) 0.000 1 Rx 0123 3 RTR 00", 8, r#"field 8 is one too many: "00""#),
-        ("1) 0.000 1 Rx 0123 0 RTR RTR", 8, r#"field 8 is one too many: "RTR""#),
-        ("1) 0.000 1 Warng FFFFFFFF 4 RTR", 7, r#"field 7 (data byte 1 of 4) is wrong: "RTR""#),
-        ("1) 0.000 1 Warng FFFFFFFF 4 00 00 00 WORD", 10, r#"field 10 (data byte 4 of 4) is wrong: "WORD""#),
-        ("1) 0.000 1 Warng FFFFFFFF 4 00 00 00 08 Ab", 11, r#"field 11 (word) is wrong: "Ab""#),
-        ("1) 0.000 1 Warng FFFFFFFF 4 00 00 00 08 AB RTR 08", 13, r#"field 13 (word) is wrong: "08""#),
-        ("1) 0.000 1 Error 0001 4 02 02 00 00", 7, r#"field 7 (data byte 1 of 4) is wrong: "02""#),
-        ("1) 0.000 1 Error 0001 4 RTR", 7, r#"field 7 (data byte 1 of 4) is wrong: "RTR""#),
-        ("1) 0.000 1 Error 0001 4 01 10 00 00", 8, r#"field 8 (data byte 2 of 4) is wrong: "10""#),
-        ("1) 0.000 1 Error 0001 4 01 1C 0", 9, r#"field 9 (data byte 3 of 4) is wrong: "0""#),
-        ("1) 0.000 1 Error 0001 4 01 1C FF )", 10, r#"field 10 (data byte 4 of 4) is wrong: ")""#),
-        ("1) 0.000 1 Error 0001 4 01 1C FF 00 WORD", 11, r#"field 11 is one too many: "WORD""#),
+        ("3) 0.000 1 Rx 0123 0", 1, r#"field 1 (row number) is wrong: "3)" instead of "2)""#),
+        ("02) 0.000 1 Rx 0123 0", 1, r#"field 1 (row number) is wrong: "02)" instead of "2)""#),
+        ("2 ) 0.000 1 Rx 0123 0", 1, r#"field 1 (row number) is wrong: "2" instead of "2)""#),
+        (" ;", 1, r#"field 1 (row number) is wrong: ";" instead of "2)""#),
+        ("2) 0.0 1 Rx 0123 0", 2, r#"field 2 (offset) is wrong: "0.0""#),
+        ("2) 00.000 1 Rx 0123 0", 2, r#"field 2 (offset) is wrong: "00.000""#),
+        ("2) 100000000000.000 1 Rx 0123 0", 2, r#"field 2 (offset) is wrong: "100000000000.000""#),
+        ("2) 0.000 0 Rx 0123 0", 3, r#"field 3 (bus) is wrong: "0""#),
+        ("2) 0.000 17 Rx 0123 0", 3, r#"field 3 (bus) is wrong: "17""#),
+        ("2) 0.000 Rx 0123 0", 3, r#"field 3 (bus) is wrong: "Rx""#),
+        ("2) 0.000 16 rx 0123 0", 4, r#"field 4 (type) is wrong: "rx""#),
+        ("2) 0.000 16 Warnng FFFFFFFF 4 00 00 00 08", 4, r#"field 4 (type) is wrong: "Warnng""#),
+        ("2) 0.000 1 Rx 123 0", 5, r#"field 5 (ID) is wrong: "123""#),
+        ("2) 0.000 1 Tx 0800 0", 5, r#"field 5 (ID) is wrong: "0800""#),
+        ("2) 0.000 1 Tx 20000000 0", 5, r#"field 5 (ID) is wrong: "20000000""#),
+        ("2) 0.000 1 Warng FFFFFFF 4 00 00 00 08", 5, r#"field 5 (ID) is wrong: "FFFFFFF""#),
+        ("2) 0.000 1 Error 00000001 4 00 02 00 00", 5, r#"field 5 (ID) is wrong: "00000001""#),
+        ("2) 0.000 1 Error 0003 4 00 02 00 00", 5, r#"field 5 (ID) is wrong: "0003""#),
+        ("2) 0.000 1 Rx 07FF 9", 6, r#"field 6 (length) is wrong: "9""#),
+        ("2) 0.000 1 Rx 1FFFFFFF 02 00 00", 6, r#"field 6 (length) is wrong: "02""#),
+        ("2) 0.000 1 Warng ffffFFFF 3 00 00 00", 6, r#"field 6 (length) is wrong: "3""#),
+        ("2) 0.000 1 Error 0008 5 00 02 00 00", 6, r#"field 6 (length) is wrong: "5""#),
+        ("2) 0.000 1 Rx 0123 0 0A", 7, r#"field 7 (RTR or nothing) is wrong: "0A""#),
+        ("2) 0.000 1 Rx 0123 1 A", 7, r#"field 7 (RTR or data byte 1 of 1) is wrong: "A""#),
+        ("2) 0.000 1 Rx 0123 2 rtr", 7, r#"field 7 (RTR or data byte 1 of 2) is wrong: "rtr""#),
+        ("2) 0.000 1 Rx 0123 2 0A RTR", 8, r#"field 8 (data byte 2 of 2) is wrong: "RTR""#),
+        ("2) 0.000 1 Tx 0123 8 0 1 2", 7, r#"field 7 (RTR or data byte 1 of 8) is wrong: "0""#),
+        ("2) 0.000 1 Tx 0123 8 00 11 22 33 44 55 66 7G", 14, r#"field 14 (data byte 8 of 8) is wrong: "7G""#),
+        ("2) 0.000 1 Rx 0123 2 0A FF 00", 9, r#"field 9 is one too many: "00""#),
+        ("2) 0.000 1 Rx 0123 3 RTR 00", 8, r#"field 8 is one too many: "00""#),
+        ("2) 0.000 1 Rx 0123 0 RTR RTR", 8, r#"field 8 is one too many: "RTR""#),
+        ("2) 0.000 1 Warng FFFFFFFF 4 RTR", 7, r#"field 7 (data byte 1 of 4) is wrong: "RTR""#),
+        ("2) 0.000 1 Warng FFFFFFFF 4 00 00 00 WORD", 10, r#"field 10 (data byte 4 of 4) is wrong: "WORD""#),
+        ("2) 0.000 1 Warng FFFFFFFF 4 00 00 00 08 Ab", 11, r#"field 11 (word) is wrong: "Ab""#),
+        ("2) 0.000 1 Warng FFFFFFFF 4 00 00 00 08 AB RTR 08", 13, r#"field 13 (word) is wrong: "08""#),
+        ("2) 0.000 1 Error 0001 4 02 02 00 00", 7, r#"field 7 (data byte 1 of 4) is wrong: "02""#),
+        ("2) 0.000 1 Error 0001 4 RTR", 7, r#"field 7 (data byte 1 of 4) is wrong: "RTR""#),
+        ("2) 0.000 1 Error 0001 4 01 10 00 00", 8, r#"field 8 (data byte 2 of 4) is wrong: "10""#),
+        ("2) 0.000 1 Error 0001 4 01 1C 0", 9, r#"field 9 (data byte 3 of 4) is wrong: "0""#),
+        ("2) 0.000 1 Error 0001 4 01 1C FF )", 10, r#"field 10 (data byte 4 of 4) is wrong: ")""#),
+        ("2) 0.000 1 Error 0001 4 01 1C FF 00 WORD", 11, r#"field 11 is one too many: "WORD""#),
     ];
     hold(12, RowReason::WrongField, &cases);
 }
@@ -113,17 +142,17 @@ fn a_wrong_field_of_version_12() {
 fn a_wrong_field_of_version_11() {
     #[rustfmt::skip]
     let cases = [
-        ("0) 0.0 Rx 0123 0", 1, r#"field 1 (row number) is wrong: "0)" instead of "1)""#),
-        ("1) 0.000 Rx 0123 0", 2, r#"field 2 (offset) is wrong: "0.000""#),
-        ("1) 0.0 1 Rx 0123 0", 3, r#"field 3 (type) is wrong: "1""#),
-        ("1) 0.0 Warng FFFF 4 00 00 00 08", 4, r#"field 4 (ID) is wrong: "FFFF""#),
-        ("1) 0.0 Rx 0123 A", 5, r#"field 5 (length) is wrong: "A""#),
-        ("1) 0.0 Rx 0123 0 00", 6, r#"field 6 (RTR or nothing) is wrong: "00""#),
-        ("1) 0.0 Tx 0123 4 000", 6, r#"field 6 (RTR or data byte 1 of 4) is wrong: "000""#),
-        ("1) 0.0 Tx 0123 4 00 00 00 0X", 9, r#"field 9 (data byte 4 of 4) is wrong: "0X""#),
-        ("1) 0.0 Tx 0123 4 00 00 00 00 00", 10, r#"field 10 is one too many: "00""#),
-        ("1) 0.0 Warng FFFFFFFF 4 00 00 00 08 BUSHEAVy", 10, r#"field 10 (word) is wrong: "BUSHEAVy""#),
-        ("1) 0.0 Error 0002 4 01 1D 00 00", 7, r#"field 7 (data byte 2 of 4) is wrong: "1D""#),
+        ("0) 0.0 Rx 0123 0", 1, r#"field 1 (row number) is wrong: "0)" instead of "2)""#),
+        ("2) 0.000 Rx 0123 0", 2, r#"field 2 (offset) is wrong: "0.000""#),
+        ("2) 0.0 1 Rx 0123 0", 3, r#"field 3 (type) is wrong: "1""#),
+        ("2) 0.0 Warng FFFF 4 00 00 00 08", 4, r#"field 4 (ID) is wrong: "FFFF""#),
+        ("2) 0.0 Rx 0123 A", 5, r#"field 5 (length) is wrong: "A""#),
+        ("2) 0.0 Rx 0123 0 00", 6, r#"field 6 (RTR or nothing) is wrong: "00""#),
+        ("2) 0.0 Tx 0123 4 000", 6, r#"field 6 (RTR or data byte 1 of 4) is wrong: "000""#),
+        ("2) 0.0 Tx 0123 4 00 00 00 0X", 9, r#"field 9 (data byte 4 of 4) is wrong: "0X""#),
+        ("2) 0.0 Tx 0123 4 00 00 00 00 00", 10, r#"field 10 is one too many: "00""#),
+        ("2) 0.0 Warng FFFFFFFF 4 00 00 00 08 BUSHEAVy", 10, r#"field 10 (word) is wrong: "BUSHEAVy""#),
+        ("2) 0.0 Error 0002 4 01 1D 00 00", 7, r#"field 7 (data byte 2 of 4) is wrong: "1D""#),
     ];
     hold(11, RowReason::WrongField, &cases);
 }
@@ -132,19 +161,19 @@ fn a_wrong_field_of_version_11() {
 fn a_row_of_version_12_that_ended_early() {
     #[rustfmt::skip]
     let cases = [
-        ("", 0, r#"the line is empty: row number "1)" was expected"#),
-        ("   ", 0, r#"the line is empty: row number "1)" was expected"#),
-        ("1)", 1, "the row ended early after field 1 (row number): offset was expected next"),
-        ("1) 0.000 ", 2, "the row ended early after field 2 (offset): bus was expected next"),
-        (" 1)  0.000  1", 3, "the row ended early after field 3 (bus): type was expected next"),
-        ("1) 0.000 1 Rx", 4, "the row ended early after field 4 (type): ID was expected next"),
-        ("1) 0.000 1 Warng FFFFFFFF", 5, "the row ended early after field 5 (ID): length was expected next"),
-        ("1) 0.000 1 Rx 0123 2", 6, "the row ended early after field 6 (length): RTR or data byte 1 of 2 was expected next"),
-        ("1) 0.000 1 Rx 0123 2 0A", 7, "the row ended early after field 7 (data byte 1 of 2): data byte 2 of 2 was expected next"),
-        ("1) 0.000 1 Tx 0123 8 00 11 22 33 44 55 66", 13, "the row ended early after field 13 (data byte 7 of 8): data byte 8 of 8 was expected next"),
-        ("1) 0.000 1 Warng FFFFFFFF 4", 6, "the row ended early after field 6 (length): data byte 1 of 4 was expected next"),
-        ("1) 0.000 1 Warng FFFFFFFF 4 00 00 00", 9, "the row ended early after field 9 (data byte 3 of 4): data byte 4 of 4 was expected next"),
-        ("1) 0.000 1 Error 0001 4 01", 7, "the row ended early after field 7 (data byte 1 of 4): data byte 2 of 4 was expected next"),
+        ("", 0, r#"the line is empty: row number "2)" was expected"#),
+        ("   ", 0, r#"the line is empty: row number "2)" was expected"#),
+        ("2)", 1, "the row ended early after field 1 (row number): offset was expected next"),
+        ("2) 0.000 ", 2, "the row ended early after field 2 (offset): bus was expected next"),
+        (" 2)  0.000  1", 3, "the row ended early after field 3 (bus): type was expected next"),
+        ("2) 0.000 1 Rx", 4, "the row ended early after field 4 (type): ID was expected next"),
+        ("2) 0.000 1 Warng FFFFFFFF", 5, "the row ended early after field 5 (ID): length was expected next"),
+        ("2) 0.000 1 Rx 0123 2", 6, "the row ended early after field 6 (length): RTR or data byte 1 of 2 was expected next"),
+        ("2) 0.000 1 Rx 0123 2 0A", 7, "the row ended early after field 7 (data byte 1 of 2): data byte 2 of 2 was expected next"),
+        ("2) 0.000 1 Tx 0123 8 00 11 22 33 44 55 66", 13, "the row ended early after field 13 (data byte 7 of 8): data byte 8 of 8 was expected next"),
+        ("2) 0.000 1 Warng FFFFFFFF 4", 6, "the row ended early after field 6 (length): data byte 1 of 4 was expected next"),
+        ("2) 0.000 1 Warng FFFFFFFF 4 00 00 00", 9, "the row ended early after field 9 (data byte 3 of 4): data byte 4 of 4 was expected next"),
+        ("2) 0.000 1 Error 0001 4 01", 7, "the row ended early after field 7 (data byte 1 of 4): data byte 2 of 4 was expected next"),
     ];
     hold(12, RowReason::EndedEarly, &cases);
 }
@@ -153,16 +182,75 @@ fn a_row_of_version_12_that_ended_early() {
 fn a_row_of_version_11_that_ended_early() {
     #[rustfmt::skip]
     let cases = [
-        ("", 0, r#"the line is empty: row number "1)" was expected"#),
-        ("1)", 1, "the row ended early after field 1 (row number): offset was expected next"),
-        ("1) 0.0", 2, "the row ended early after field 2 (offset): type was expected next"),
-        ("1) 0.0 Error", 3, "the row ended early after field 3 (type): ID was expected next"),
-        ("1) 0.0 Error 0004", 4, "the row ended early after field 4 (ID): length was expected next"),
-        ("1) 0.0 Error 0004 4", 5, "the row ended early after field 5 (length): data byte 1 of 4 was expected next"),
-        ("1) 0.0 Tx 0123 1", 5, "the row ended early after field 5 (length): RTR or data byte 1 of 1 was expected next"),
-        ("1) 0.0 Tx 0123 3 00 00", 7, "the row ended early after field 7 (data byte 2 of 3): data byte 3 of 3 was expected next"),
+        ("", 0, r#"the line is empty: row number "2)" was expected"#),
+        ("2)", 1, "the row ended early after field 1 (row number): offset was expected next"),
+        ("2) 0.0", 2, "the row ended early after field 2 (offset): type was expected next"),
+        ("2) 0.0 Error", 3, "the row ended early after field 3 (type): ID was expected next"),
+        ("2) 0.0 Error 0004", 4, "the row ended early after field 4 (ID): length was expected next"),
+        ("2) 0.0 Error 0004 4", 5, "the row ended early after field 5 (length): data byte 1 of 4 was expected next"),
+        ("2) 0.0 Tx 0123 1", 5, "the row ended early after field 5 (length): RTR or data byte 1 of 1 was expected next"),
+        ("2) 0.0 Tx 0123 3 00 00", 7, "the row ended early after field 7 (data byte 2 of 3): data byte 3 of 3 was expected next"),
     ];
     hold(11, RowReason::EndedEarly, &cases);
+}
+
+#[test]
+fn a_first_row_of_any_number() {
+    let before = format!("{}; a selection\r\n;\r\n", head(12));
+    #[rustfmt::skip]
+    let wrong_fields = [
+        ("0) 0.000 1 Rx 0123 0", 1, r#"field 1 (row number) is wrong: "0)" instead of a number from 1 to 999999 and ")""#),
+        ("1000000) 0.000 1 Rx 0123 0", 1, r#"field 1 (row number) is wrong: "1000000)" instead of a number from 1 to 999999 and ")""#),
+        ("04117) 0.000 1 Rx 0123 0", 1, r#"field 1 (row number) is wrong: "04117)" instead of a number from 1 to 999999 and ")""#),
+        ("4117 0.000 1 Rx 0123 0", 1, r#"field 1 (row number) is wrong: "4117" instead of a number from 1 to 999999 and ")""#),
+        ("4117 ) 0.000 1 Rx 0123 0", 1, r#"field 1 (row number) is wrong: "4117" instead of a number from 1 to 999999 and ")""#),
+        ("4117)) 0.000 1 Rx 0123 0", 1, r#"field 1 (row number) is wrong: "4117))" instead of a number from 1 to 999999 and ")""#),
+        (")", 1, r#"field 1 (row number) is wrong: ")" instead of a number from 1 to 999999 and ")""#),
+        (" ;", 1, r#"field 1 (row number) is wrong: ";" instead of a number from 1 to 999999 and ")""#),
+        ("4117) 0.0 1 Rx 0123 0", 2, r#"field 2 (offset) is wrong: "0.0""#),
+        ("999999) 0.000 17 Rx 0123 0", 3, r#"field 3 (bus) is wrong: "17""#),
+        ("1) 0.000 1 Rx 0123 9", 6, r#"field 6 (length) is wrong: "9""#),
+        ("2) 0.000 1 Rx 0123 1 0A FF", 8, r#"field 8 is one too many: "FF""#),
+    ];
+    hold_behind(&before, 12, 0, RowReason::WrongField, &wrong_fields);
+    #[rustfmt::skip]
+    let ended_early = [
+        ("", 0, r#"the line is empty: a row number from 1 to 999999 and ")" was expected"#),
+        ("   ", 0, r#"the line is empty: a row number from 1 to 999999 and ")" was expected"#),
+        ("1)", 1, "the row ended early after field 1 (row number): offset was expected next"),
+        (" 4117) 0.000", 2, "the row ended early after field 2 (offset): bus was expected next"),
+        ("999999) 0.000 1 Rx 0123 1", 6, "the row ended early after field 6 (length): RTR or data byte 1 of 1 was expected next"),
+    ];
+    hold_behind(&before, 12, 0, RowReason::EndedEarly, &ended_early);
+    let of_version_11 = [(
+        "4117) 0.000 1 Rx 0123 0",
+        2,
+        r#"field 2 (offset) is wrong: "0.000""#,
+    )];
+    hold_behind(&head(11), 11, 0, RowReason::WrongField, &of_version_11);
+}
+
+#[test]
+fn a_row_in_the_middle() {
+    let before = format!(
+        "{};\r\n4117) 0.0 Rx 0123 0\r\n; x\r\n4118) 0.0 Rx 0123 0\r\n",
+        head(11)
+    );
+    #[rustfmt::skip]
+    let cases = [
+        // A gap, a repeat, a number by count.
+        ("4120) 0.0 Rx 0123 0", 1, r#"field 1 (row number) is wrong: "4120)" instead of "4119)""#),
+        ("4118) 0.0 Rx 0123 0", 1, r#"field 1 (row number) is wrong: "4118)" instead of "4119)""#),
+        ("3) 0.0 Rx 0123 0", 1, r#"field 1 (row number) is wrong: "3)" instead of "4119)""#),
+        ("4119) 0.0 Rx 0123 9", 5, r#"field 5 (length) is wrong: "9""#),
+    ];
+    hold_behind(&before, 11, 4119, RowReason::WrongField, &cases);
+    let empty = [(
+        "",
+        0,
+        r#"the line is empty: row number "4119)" was expected"#,
+    )];
+    hold_behind(&before, 11, 4119, RowReason::EndedEarly, &empty);
 }
 
 #[test]
@@ -181,28 +269,48 @@ fn nothing_to_explain() {
         "\r\n",
     ];
     for line in lines {
-        let answer = explain(line.as_bytes(), 12, 1);
-        assert_eq!(answer, refused(Reason::Unexplained), "{line}");
+        for number in [0, 1] {
+            let answer = explain(line.as_bytes(), 12, number);
+            assert_eq!(answer, refused(Reason::Unexplained), "{line}");
+        }
     }
     // What is a row of one version and number is none of another.
     assert_eq!(explain(lines[0].as_bytes(), 12, 2), wrong(1));
     assert_eq!(explain(lines[0].as_bytes(), 11, 1), wrong(2));
+    assert_eq!(explain(lines[0].as_bytes(), 11, 0), wrong(2));
     // With $ first it is no comment.
-    assert_eq!(explain(b";$x", 12, 1), wrong(1));
-    assert_eq!(explain(b"; $x", 12, 1), wrong(1));
+    for number in [0, 1] {
+        assert_eq!(explain(b";$x", 12, number), wrong(1));
+        assert_eq!(explain(b"; $x", 12, number), wrong(1));
+    }
 }
 
 #[test]
 fn numbers_and_versions_at_their_limits() {
     let row = |number: u64| format!("{number}) 0.0 Rx 0123 0");
-    for number in [1, 9, 10, 999_999] {
+    for number in [1, 9, 10, 4117, 999_999] {
         let row = row(number);
-        let answer = explain(row.as_bytes(), 11, number);
-        assert_eq!(answer, refused(Reason::Unexplained));
-        let answer = explain(&row.as_bytes()[..row.len() - 1], 11, number);
-        assert_eq!(answer, early(4));
+        // The number, and 0 for any.
+        for expected in [number, 0] {
+            let answer = explain(row.as_bytes(), 11, expected);
+            assert_eq!(answer, refused(Reason::Unexplained));
+            let answer = explain(&row.as_bytes()[..row.len() - 1], 11, expected);
+            assert_eq!(answer, early(4));
+        }
+        // Its neighbours, but for 0 and what no row may have.
+        for other in [number - 1, number + 1] {
+            if other != 0 && other != 1_000_000 {
+                assert_eq!(explain(row.as_bytes(), 11, other), wrong(1));
+            }
+        }
     }
+    // No row has these numbers, so that they are wrong where any is expected.
     for number in [0, 1_000_000, u64::MAX] {
+        assert_eq!(explain(row(number).as_bytes(), 11, 0), wrong(1));
+    }
+    assert_eq!(explain(b"", 11, 0), early(0));
+    assert_eq!(explain(b"x", 11, 0), wrong(1));
+    for number in [1_000_000, 1_000_001, u64::MAX] {
         for line in [row(number), "".to_string(), "x".to_string()] {
             let answer = explain(line.as_bytes(), 11, number);
             assert_eq!(answer, refused(Reason::Unexplained));
@@ -226,7 +334,7 @@ fn lines_of_any_length() {
         // As many blanks as one likes, and words.
         (format!("1){blanks}0.000 1 Rx 0123 0"), unexplained),
         (format!("1){blanks}0.000 1 Rx 0123 1"), early(6)),
-        (format!("{blanks}2)"), wrong(1)),
+        (format!("{blanks}0)"), wrong(1)),
         (blanks, early(0)),
         (format!("{warning}{}", long("A")), unexplained),
         (format!("{warning}{}a", long("Z")), wrong(11)),
@@ -236,6 +344,7 @@ fn lines_of_any_length() {
             format!("{warning}{}@", long("WORD ")),
             wrong(10 + 20_000 + 1),
         ),
+        (format!("{}1)", long("0")), wrong(1)),
         // No other field is long.
         (long("1"), wrong(1)),
         (format!("1) {}.000 1 Rx 0123 0", long("1")), wrong(2)),
@@ -254,7 +363,12 @@ fn lines_of_any_length() {
     ];
     for (line, answer) in cases {
         assert_eq!(explain(line.as_bytes(), 12, 1), answer, "{}", &line[..60]);
+        assert_eq!(explain(line.as_bytes(), 12, 0), answer, "{}", &line[..60]);
     }
+    // The first row may have a number that row 1 may not.
+    let line = format!("{}2){}", long(" "), long(" "));
+    assert_eq!(explain(line.as_bytes(), 12, 1), wrong(1));
+    assert_eq!(explain(line.as_bytes(), 12, 0), early(1));
 }
 
 #[test]
@@ -335,9 +449,15 @@ fn bytes_in_words() {
     let text = format!("{}1) {long}1\r\n", head(12));
     let words = format!("field 2 (offset) is wrong: \"{long}\"...");
     assert_eq!(explained(text.as_bytes()).to_string(), words);
-    let text = format!("{}{long}1)\r\n", head(12));
-    let words = format!("field 1 (row number) is wrong: \"{long}\"... instead of \"1)\"");
-    assert_eq!(explained(text.as_bytes()).to_string(), words);
+    let instead = [
+        ("", "a number from 1 to 999999 and \")\""),
+        (row_1(12), "\"2)\""),
+    ];
+    for (row, instead) in instead {
+        let text = format!("{}{row}{long}1)\r\n", head(12));
+        let words = format!("field 1 (row number) is wrong: \"{long}\"... instead of {instead}");
+        assert_eq!(explained(text.as_bytes()).to_string(), words);
+    }
 }
 
 #[test]
@@ -395,25 +515,28 @@ fn after_the_last_row() {
     };
     let mut packed = [0; RECORD];
     pack(&record, &mut packed).unwrap();
-    let mut text = write_to_vec(11, 0, &packed.repeat(MOST_ROWS)).unwrap();
-    text.extend(b";\r\n");
-    let end = text.len();
-    for line in ["1000000) 0.0 Rx 0000 0", "999999) 0.0 Rx 0000 0", "", "x"] {
-        text.truncate(end);
-        text.extend(line.as_bytes());
-        text.extend(b"\r\n");
-        let said = explained(&text);
-        let expected = RowExplanation {
-            line: 1_000_003,
-            version: 11,
-            number: 1_000_000,
-            fault: RowFault::TooManyRows,
-        };
-        assert_eq!(said, expected);
-        assert_eq!(
-            said.to_string(),
-            "row 999,999 stands before it, and no row may follow"
-        );
+    // All rows that there can be, three and one: each with the last number.
+    for (first, rows) in [(1, MOST_ROWS), (999_997, 3), (999_999, 1)] {
+        let mut text = write_to_vec(11, 0, first, &packed.repeat(rows)).unwrap();
+        text.extend(b";\r\n");
+        let end = text.len();
+        for line in ["1000000) 0.0 Rx 0000 0", "999999) 0.0 Rx 0000 0", "", "x"] {
+            text.truncate(end);
+            text.extend(line.as_bytes());
+            text.extend(b"\r\n");
+            let said = explained(&text);
+            let expected = RowExplanation {
+                line: rows as u64 + 4,
+                version: 11,
+                number: 1_000_000,
+                fault: RowFault::NoNumberLeft,
+            };
+            assert_eq!(said, expected);
+            assert_eq!(
+                said.to_string(),
+                "row number 999999 stands before it, and no row may follow"
+            );
+        }
     }
 }
 
@@ -449,7 +572,7 @@ fn whatever_the_bytes_are() {
                     assert_eq!(fields[field as usize - 1], bytes)
                 }
                 RowFault::EndedEarly { field, .. } => assert_eq!(fields.len() as u64, field),
-                RowFault::TooManyRows => panic!(),
+                RowFault::NoNumberLeft => panic!(),
             }
         }
     }

@@ -1,7 +1,7 @@
-//! The constants of `include/bushingowl.h` are those of this crate.
+//! The constants of `include/bushingowl.h` are those of this crate, and so are the lengths of its answers.
 
 use bushingowl::{
-    Kind, RowReason, LEAST_ROW, MOST_HEADER, MOST_LINE, MOST_OFFSET, MOST_ROW, MOST_ROWS,
+    numbers, Kind, RowReason, LEAST_ROW, MOST_HEADER, MOST_LINE, MOST_OFFSET, MOST_ROW, MOST_ROWS,
     MOST_START, MOST_TEXT, RECORD,
 };
 
@@ -70,5 +70,24 @@ fn reasons_are_the_same() {
     }
     for number in [0, 3, u64::MAX] {
         assert_eq!(RowReason::of(number), None);
+    }
+}
+
+#[test]
+fn answers_have_as_many_numbers() {
+    let lengths = [
+        ("read", numbers::read(b"", &mut []).len()),
+        ("write", numbers::write(0, 0, 0, b"", &mut []).len()),
+        ("export", numbers::export(0, b"", &mut []).len()),
+        ("unpack", numbers::unpack(b"").len()),
+        ("pack", numbers::pack(&[0; 7], &mut []).len()),
+        ("explain", numbers::explain(b"", 0, 0).len()),
+    ];
+    for (name, length) in lengths {
+        let start = format!("\nvoid bo_{name}(");
+        let (_, behind) = HEADER.split_once(&start).unwrap();
+        let (parameters, _) = behind.split_once(");").unwrap();
+        let answer = format!("uint64_t answer[{length}]");
+        assert!(parameters.ends_with(&answer), "{name}");
     }
 }

@@ -91,10 +91,10 @@ fn of_each_kind() {
 
 #[test]
 fn of_a_start() {
-    let text = write_to_vec(12, MOST_START, &[]).unwrap();
+    let text = write_to_vec(12, MOST_START, 0, &[]).unwrap();
     assert_eq!(text.len(), MOST_HEADER);
     assert_eq!(read_to_vec(&text).unwrap().0.start, MOST_START);
-    let late = write_to_vec(12, MOST_START + 1, &[]).unwrap_err();
+    let late = write_to_vec(12, MOST_START + 1, 0, &[]).unwrap_err();
     assert_eq!(late.reason, Reason::StartTooLate);
 }
 
@@ -114,12 +114,13 @@ fn of_rows_and_lines() {
     let mut record = [0; RECORD];
     pack(&LONGEST, &mut record).unwrap();
     let mut records = record.repeat(MOST_ROWS);
-    let text = write_to_vec(12, MOST_START, &records).unwrap();
+    let text = write_to_vec(12, MOST_START, 1, &records).unwrap();
     let last = b"999999) 99999999999.999 16 Rx 1FFFFFFF 8 00 11 22 33 44 55 66 77\r\n";
     assert_eq!(last.len(), MOST_ROW);
     assert!(text.ends_with(last));
     let (trace, read) = read_to_vec(&text).unwrap();
     assert_eq!((trace.rows, trace.step_back), (MOST_ROWS, None));
+    assert_eq!(trace.first, 1);
     assert!(read == records);
     let (exported, lines) = export_to_vec(MOST_START, &records).unwrap();
     assert_eq!((exported.lines, exported.left_out), (MOST_ROWS, 0));
@@ -128,7 +129,7 @@ fn of_rows_and_lines() {
     let refused = read_to_vec(&next).unwrap_err();
     assert_eq!((refused.number(), refused.place), (7, 1_000_002));
     records.extend(record);
-    let many = write_to_vec(12, 0, &records).unwrap_err();
+    let many = write_to_vec(12, 0, 1, &records).unwrap_err();
     assert_eq!(many.reason, Reason::NoRecords);
     assert_eq!(export_to_vec(0, &records).unwrap_err(), many);
 }

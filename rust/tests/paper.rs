@@ -27,6 +27,7 @@ const HELD: Read = Read {
     start: START,
     rows: 3,
     step_back: Some(3),
+    first: 1,
 };
 const GIVEN: Exported = Exported {
     bytes: LINES.len(),
@@ -59,10 +60,20 @@ fn it_is_read() {
 #[test]
 fn it_is_written() {
     let mut out = [0xEE; 200];
-    let bytes = write(12, START, &records(), &mut out);
+    let bytes = write(12, START, 1, &records(), &mut out);
     assert_eq!(bytes, Ok(WRITTEN.len()));
     assert_begins(&out, WRITTEN);
-    assert_eq!(write_to_vec(12, START, &records()), Ok(WRITTEN.to_vec()));
+    let text = write_to_vec(12, START, 1, &records());
+    assert_eq!(text, Ok(WRITTEN.to_vec()));
+}
+
+#[test]
+fn it_is_written_as_it_was_read() {
+    let mut out = [0xEE; 200];
+    let bytes = HELD.write(&records(), &mut out);
+    assert_eq!(bytes, Ok(WRITTEN.len()));
+    assert_begins(&out, WRITTEN);
+    assert_eq!(HELD.write_to_vec(&records()), Ok(WRITTEN.to_vec()));
 }
 
 #[test]
@@ -119,7 +130,14 @@ fn the_other_rows_keep_their_fields() {
 #[test]
 fn nothing_is_fine() {
     let text = &TEXT[..40];
-    assert_eq!(read(text, &mut []).map(|read| read.rows), Ok(0));
+    let held = Read {
+        version: 12,
+        start: START,
+        rows: 0,
+        step_back: None,
+        first: 0,
+    };
+    assert_eq!(read(text, &mut []), Ok(held));
     assert_eq!(read_to_vec(text).map(|(_, records)| records), Ok(vec![]));
     let none = Exported {
         bytes: 0,
@@ -129,5 +147,6 @@ fn nothing_is_fine() {
     assert_eq!(export(START, &[], &mut []), Ok(none));
     assert_eq!(export_to_vec(START, &[]), Ok((none, vec![])));
     let head = WRITTEN[..49].to_vec();
-    assert_eq!(write_to_vec(12, START, &[]), Ok(head));
+    assert_eq!(write_to_vec(12, START, 0, &[]), Ok(head.clone()));
+    assert_eq!(held.write_to_vec(&[]), Ok(head));
 }

@@ -57,6 +57,11 @@ fn of_reading() {
             Reason::NoRow,
             4,
         ),
+        (
+            lines("4117) 0.000 1 Rx 0123 0\r\n2) 0.000 1 Rx 0123 0\r\n"),
+            Reason::NoRow,
+            4,
+        ),
     ];
     for (text, reason, place) in cases {
         let shown = String::from_utf8_lossy(&text);
@@ -91,21 +96,32 @@ fn of_writing() {
     let good = packed(&FRAME);
     let odd = packed(&Record { bus: 0, ..FRAME });
     let bad = [0xFF; RECORD];
-    let cases: [(u32, u64, Vec<u8>, Reason, u64); 9] = [
-        (13, u64::MAX, vec![0xFF; 19], Reason::NoRecords, 0),
-        (13, u64::MAX, bad.to_vec(), Reason::NoVersion, 0),
-        (u32::MAX, 0, vec![], Reason::NoVersion, 0),
-        (12, MOST_START + 1, bad.to_vec(), Reason::StartTooLate, 0),
-        (12, 0, [good, odd, bad].concat(), Reason::NotWellFormed, 3),
-        (12, 0, [good, bad, odd].concat(), Reason::NotWellFormed, 2),
-        (12, 0, [good, odd, odd].concat(), Reason::NotCarried, 2),
-        (11, 0, good.to_vec(), Reason::NotCarried, 1),
-        (11, 0, odd.to_vec(), Reason::NotCarried, 1),
+    // Version, start, first number, records, and what they are refused with. Each of the first ones is wrong in all that
+    // comes behind as well.
+    #[rustfmt::skip]
+    let cases: [(u32, u64, u64, Vec<u8>, Reason, u64); 14] = [
+        (13, u64::MAX, u64::MAX, vec![0xFF; 19], Reason::NoRecords, 0),
+        (13, u64::MAX, u64::MAX, bad.to_vec(), Reason::NoVersion, 0),
+        (u32::MAX, 0, 0, vec![], Reason::NoVersion, 0),
+        (12, MOST_START + 1, u64::MAX, bad.to_vec(), Reason::StartTooLate, 0),
+        (12, MOST_START + 1, 1, vec![], Reason::StartTooLate, 0),
+        (12, MOST_START, u64::MAX, bad.to_vec(), Reason::WrongFirstNumber, 0),
+        (12, MOST_START, 0, bad.to_vec(), Reason::WrongFirstNumber, 0),
+        (11, 0, 0, good.to_vec(), Reason::WrongFirstNumber, 0),
+        // Positions, whatever the number of the first row.
+        (12, 0, 1, [good, odd, bad].concat(), Reason::NotWellFormed, 3),
+        (12, 0, 4117, [good, bad, odd].concat(), Reason::NotWellFormed, 2),
+        (12, 0, 1, [good, odd, odd].concat(), Reason::NotCarried, 2),
+        (12, 0, 4117, [good, odd, odd].concat(), Reason::NotCarried, 2),
+        (11, 0, 1, good.to_vec(), Reason::NotCarried, 1),
+        (11, 0, 1, odd.to_vec(), Reason::NotCarried, 1),
     ];
-    for (version, start, records, reason, place) in cases {
-        let answer = untouched(300, |out| write(version, start, &records, out));
-        assert_eq!(answer, refused(reason, place));
-        let answer = write_to_vec(version, start, &records);
+    for (version, start, first, records, reason, place) in cases {
+        for room in [0, 300] {
+            let answer = untouched(room, |out| write(version, start, first, &records, out));
+            assert_eq!(answer, refused(reason, place));
+        }
+        let answer = write_to_vec(version, start, first, &records);
         assert_eq!(answer, refused(reason, place));
     }
 }
@@ -130,17 +146,17 @@ fn of_exporting() {
 #[test]
 fn of_writing_and_exporting_without_room() {
     let records = [packed(&FRAME), packed(&FRAME)].concat();
-    let text = write_to_vec(12, 0, &records).unwrap();
+    let text = write_to_vec(12, 0, 1, &records).unwrap();
     let (exported, lines) = export_to_vec(0, &records).unwrap();
     assert_eq!(exported.bytes, lines.len());
     for less in [1, 2, 30] {
-        let answer = untouched(text.len() - less, |out| write(12, 0, &records, out));
+        let answer = untouched(text.len() - less, |out| write(12, 0, 1, &records, out));
         assert_eq!(answer, refused(Reason::NoRoom, 0));
         let answer = untouched(lines.len() - less, |out| export(0, &records, out));
         assert_eq!(answer, refused(Reason::NoRoom, 0));
     }
     let mut out = vec![0; text.len()];
-    assert_eq!(write(12, 0, &records, &mut out), Ok(text.len()));
+    assert_eq!(write(12, 0, 1, &records, &mut out), Ok(text.len()));
     assert_eq!(out, text);
     let mut out = vec![0; lines.len()];
     assert_eq!(export(0, &records, &mut out), Ok(exported));
@@ -166,14 +182,22 @@ fn of_single_records() {
 
 #[test]
 fn with_zeros_for_all_other_numbers() {
-    assert_eq!(numbers::read(b"", &mut []), [4, 1, 0, 0, 0, 0]);
-    assert_eq!(numbers::write(13, 0, &[], &mut []), [21, 0, 0]);
+    assert_eq!(numbers::read(b"", &mut []), [4, 1, 0, 0, 0, 0, 0]);
+    // A row before the line that is wrong, and a good trace without room.
+    let text = format!("{HEAD}4117) 0.000 1 Rx 0123 0\r\n");
+    let answer = numbers::read(format!("{text}x\r\n").as_bytes(), &mut [0; 40]);
+    assert_eq!(answer, [7, 4, 0, 0, 0, 0, 0]);
+    let answer = numbers::read(text.as_bytes(), &mut []);
+    assert_eq!(answer, [8, 0, 0, 0, 0, 0, 0]);
+    assert_eq!(numbers::write(13, 0, 0, &[], &mut []), [21, 0, 0]);
+    assert_eq!(numbers::write(12, 0, 1, &[], &mut []), [26, 0, 0]);
     assert_eq!(numbers::export(0, &[0], &mut []), [20, 0, 0, 0, 0]);
     assert_eq!(numbers::unpack(&[]), [20, 0, 0, 0, 0, 0, 0, 0, 0]);
     assert_eq!(numbers::pack(&[u64::MAX; 7], &mut [0; 20]), [23, 1]);
     assert_eq!(numbers::pack(&[0; 7], &mut []), [25, 0]);
     assert_eq!(numbers::explain(b"", 13, 1), [21, 0, 0, 0]);
     assert_eq!(numbers::explain(b";", 12, 1), [30, 0, 0, 0]);
+    assert_eq!(numbers::explain(b";", 12, 0), [30, 0, 0, 0]);
 }
 
 #[test]
@@ -203,9 +227,14 @@ fn in_words() {
         (24, 8, "the version can't carry record 8 (refusal 24)"),
         (25, 0, "the output is too short (refusal 25)"),
         (
+            26,
+            0,
+            "the first number is 0 with records or not 0 without, or the last row's would be above 999,999 (refusal 26)",
+        ),
+        (
             30,
             0,
-            "the line is a row or a comment or holds CR or LF, or its number is not 1 to 999,999 (refusal 30)",
+            "the line is a row or a comment or holds CR or LF, or its number is above 999,999 (refusal 30)",
         ),
     ];
     assert_eq!(cases.len(), Reason::ALL.len());
@@ -214,7 +243,7 @@ fn in_words() {
         assert_eq!(reason.number(), number);
         assert_eq!(shown(reason, place), words);
     }
-    for number in [0, 9, 19, 26, 29, 31, u64::MAX] {
+    for number in [0, 9, 19, 27, 29, 31, u64::MAX] {
         assert_eq!(Reason::of(number), None);
     }
 }
