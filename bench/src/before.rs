@@ -1,7 +1,8 @@
 //! An earlier library, opened as a shared object: the present one is linked, and its functions have the same names.
 //!
 //! Why every call here is sound:
-//! - The script `measure` makes the shared object of an archive whose functions are those of `include/bushingowl.h`.
+//! - The script `measure` makes the shared object of an archive whose functions are those of `include/bushingowl.h`, as it is or as it was before
+//!   Order 3. A variable says which, and a first call of the reader, sound for both, tells whether that is so.
 //! - It is never closed, so that its functions stay where they are.
 //! - A slice goes over as its pointer and its length, and the library reads and writes only within the lengths given.
 //! - `&mut` makes sure that the output and the answer overlap with nothing else in the call. No pointer is kept.
@@ -12,7 +13,9 @@ use std::mem::transmute;
 use std::ptr::NonNull;
 
 type Read = unsafe extern "C" fn(*const u8, usize, *mut u8, usize, *mut u64);
-type Write = unsafe extern "C" fn(u32, u64, *const u8, usize, *mut u8, usize, *mut u64);
+type Write = unsafe extern "C" fn(u32, u64, u64, *const u8, usize, *mut u8, usize, *mut u64);
+/// The writer before Order 3, which gave it a first number.
+type WriteFromOne = unsafe extern "C" fn(u32, u64, *const u8, usize, *mut u8, usize, *mut u64);
 type Export = unsafe extern "C" fn(u64, *const u8, usize, *mut u8, usize, *mut u64);
 
 extern "C" {
@@ -25,14 +28,25 @@ extern "C" {
 const RTLD_NOW: c_int = 2;
 /// The variable in which the script hands over the path.
 const VARIABLE: &str = "BUSHINGOWL_BEFORE_SHARED";
+/// The variable that says by which header the library is called: the number that `BUSHINGOWL_API` has there.
+const API: &str = "BUSHINGOWL_BEFORE_API";
+/// The header as it is, and as it was before Order 3.
+const PRESENT: &str = "3";
+const FROM_ONE: &str = "2";
 /// What an answer holds before the call. Every call sets every number.
 const UNSET: u64 = u64::MAX;
 
 /// Its functions are those of `bushingowl::numbers`.
 pub struct Before {
     read: Read,
-    write: Write,
+    write: Writer,
     export: Export,
+}
+
+enum Writer {
+    Numbered(Write),
+    /// Before Order 3: all rows are numbered from 1 on, and the reader says nothing of it.
+    FromOne(WriteFromOne),
 }
 
 impl Before {
@@ -49,19 +63,38 @@ impl Before {
         let read = function(object, c"bo_read")?;
         let write = function(object, c"bo_write")?;
         let export = function(object, c"bo_export")?;
+        let from_one = from_one()?;
         // SAFETY: see above; the three are functions of the header, with its parameters.
-        unsafe {
-            Ok(Before {
+        let before = unsafe {
+            Before {
                 read: transmute::<NonNull<c_void>, Read>(read),
-                write: transmute::<NonNull<c_void>, Write>(write),
+                write: match from_one {
+                    true => Writer::FromOne(transmute::<NonNull<c_void>, WriteFromOne>(write)),
+                    false => Writer::Numbered(transmute::<NonNull<c_void>, Write>(write)),
+                },
                 export: transmute::<NonNull<c_void>, Export>(export),
-            })
+            }
+        };
+        let [.., first] = before.numbers_read(b"", &mut []);
+        match (first == UNSET, from_one) {
+            (true, false) => Err(format!("made before Order 3, it needs {API}={FROM_ONE}")),
+            (false, true) => Err(format!("{API}={FROM_ONE} is for one from before Order 3")),
+            _ => Ok(before),
         }
     }
 
-    pub fn read(&self, text: &[u8], out: &mut [u8]) -> [u64; 6] {
-        let mut answer = [UNSET; 6];
-        // SAFETY: see above; the answer has room for the six numbers of the header.
+    pub fn read(&self, text: &[u8], out: &mut [u8]) -> [u64; 7] {
+        let mut answer = self.numbers_read(text, out);
+        if let Writer::FromOne(_) = self.write {
+            answer[6] = answer[4].min(1);
+        }
+        answer
+    }
+
+    /// The numbers that the reader sets; before Order 3 the last, which is the first number, was not among them.
+    fn numbers_read(&self, text: &[u8], out: &mut [u8]) -> [u64; 7] {
+        let mut answer = [UNSET; 7];
+        // SAFETY: see above; the answer has room for the seven numbers of the header, and so for the six that there were.
         unsafe {
             (self.read)(
                 text.as_ptr(),
@@ -74,19 +107,25 @@ impl Before {
         answer
     }
 
-    pub fn write(&self, version: u32, start: u64, records: &[u8], out: &mut [u8]) -> [u64; 3] {
+    pub fn write(
+        &self,
+        version: u32,
+        start: u64,
+        first: u64,
+        records: &[u8],
+        out: &mut [u8],
+    ) -> [u64; 3] {
         let mut answer = [UNSET; 3];
+        let (list, list_len) = (records.as_ptr(), records.len());
+        let (text, room, said) = (out.as_mut_ptr(), out.len(), answer.as_mut_ptr());
         // SAFETY: see above; the answer has room for the three numbers of the header.
         unsafe {
-            (self.write)(
-                version,
-                start,
-                records.as_ptr(),
-                records.len(),
-                out.as_mut_ptr(),
-                out.len(),
-                answer.as_mut_ptr(),
-            )
+            match self.write {
+                Writer::Numbered(write) => {
+                    write(version, start, first, list, list_len, text, room, said)
+                }
+                Writer::FromOne(write) => write(version, start, list, list_len, text, room, said),
+            }
         }
         answer
     }
@@ -105,6 +144,15 @@ impl Before {
             )
         }
         answer
+    }
+}
+
+/// Whether the variable says that the library is from before Order 3.
+fn from_one() -> Result<bool, String> {
+    match env::var(API).as_deref() {
+        Err(_) | Ok("" | PRESENT) => Ok(false),
+        Ok(FROM_ONE) => Ok(true),
+        Ok(other) => Err(format!("{API} is {FROM_ONE} or {PRESENT}, not {other}")),
     }
 }
 

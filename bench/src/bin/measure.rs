@@ -20,6 +20,8 @@ usage: measure [ROWS...]
 times traces of so many rows, each a number from 1 to 999999; without ROWS those of 10000, 100000 and 999999";
 /// 1 November 2023, ten o'clock.
 const START: u64 = 3_907_994_400_000;
+/// The number of the first row.
+const FIRST: u64 = 1;
 /// How long each operation is tried, and how often at least.
 const LONG_ENOUGH: Duration = Duration::from_millis(600);
 const OFTEN_ENOUGH: usize = 7;
@@ -95,7 +97,7 @@ impl Side {
         }
     }
 
-    fn read(&self, text: &[u8], out: &mut [u8]) -> [u64; 6] {
+    fn read(&self, text: &[u8], out: &mut [u8]) -> [u64; 7] {
         match self {
             Side::Library => numbers::read(text, out),
             Side::Before(before) => before.read(text, out),
@@ -103,11 +105,11 @@ impl Side {
         }
     }
 
-    fn write(&self, version: u32, start: u64, records: &[u8], out: &mut [u8]) -> [u64; 3] {
+    fn write(&self, version: u32, records: &[u8], out: &mut [u8]) -> [u64; 3] {
         match self {
-            Side::Library => numbers::write(version, start, records, out),
-            Side::Before(before) => before.write(version, start, records, out),
-            Side::Expert => expert::write(version, start, records, out),
+            Side::Library => numbers::write(version, START, FIRST, records, out),
+            Side::Before(before) => before.write(version, START, FIRST, records, out),
+            Side::Expert => expert::write(version, START, FIRST, records, out),
         }
     }
 
@@ -124,7 +126,7 @@ fn measure_all(sides: &[Side], rows: usize, version: u32) {
     let mut random = Random::new(rows as u64);
     let records = packed_all(&realistic(&mut random, u64::from(version), rows));
     let mut text = vec![0; MOST_HEADER + rows * MOST_ROW];
-    let [.., len] = expert::write(version, START, &records, &mut text);
+    let [.., len] = expert::write(version, START, FIRST, &records, &mut text);
     text.truncate(len as usize);
     let case = Case {
         sides,
@@ -142,7 +144,7 @@ fn measure_all(sides: &[Side], rows: usize, version: u32) {
     case.measure(
         "write",
         text.len(),
-        |side, out| side.write(version, START, black_box(&records), out),
+        |side, out| side.write(version, black_box(&records), out),
         |answer| answer[2] as usize,
     );
     case.measure(

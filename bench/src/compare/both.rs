@@ -40,8 +40,8 @@ impl Both {
         &self.library[GUARD..GUARD + len]
     }
 
-    pub fn read(&mut self, text: &[u8], room: usize) -> Result<[u64; 6], Difference> {
-        let written = |answer: &[u64; 6]| 20 * answer[4] as usize;
+    pub fn read(&mut self, text: &[u8], room: usize) -> Result<[u64; 7], Difference> {
+        let written = |answer: &[u64; 7]| 20 * answer[4] as usize;
         self.run(text, room, numbers::read, expert::read, written)
             .map_err(|what| Difference {
                 what: format!("reading into {room} bytes: {what}"),
@@ -53,18 +53,21 @@ impl Both {
         &mut self,
         version: u32,
         start: u64,
+        first: u64,
         records: &[u8],
         room: usize,
     ) -> Result<[u64; 3], Difference> {
         self.run(
             records,
             room,
-            |records, out| numbers::write(version, start, records, out),
-            |records, out| expert::write(version, start, records, out),
+            |records, out| numbers::write(version, start, first, records, out),
+            |records, out| expert::write(version, start, first, records, out),
             |answer| answer[2] as usize,
         )
         .map_err(|what| Difference {
-            what: format!("writing version {version}, start {start} into {room} bytes: {what}"),
+            what: format!(
+                "writing version {version}, start {start}, first {first} into {room} bytes: {what}"
+            ),
             input: shown(records),
         })
     }

@@ -3,6 +3,7 @@
 use super::runs::Runs;
 use super::Checked;
 use crate::inputs::damage::{damage, damage_records};
+use crate::inputs::numbers::any_first;
 use crate::inputs::random::Random;
 use crate::inputs::records::{changed, packed, packed_all, record};
 use crate::inputs::spelling::Spelled;
@@ -24,8 +25,12 @@ pub fn one_input(runs: &mut Runs) -> Checked {
 
 fn spelled(runs: &mut Runs) -> Checked {
     let spelled = trace(&mut runs.random);
+    let kind = match spelled.wrong {
+        None => "read: good trace",
+        Some(_) => "read: trace with a wrong number",
+    };
     let known = (spelled.answer(), &*spelled.records());
-    runs.read("read: good trace", &spelled.text, Some(known))?;
+    runs.read(kind, &spelled.text, Some(known))?;
     Ok(())
 }
 
@@ -65,7 +70,8 @@ fn write(runs: &mut Runs) -> Checked {
         _ => version,
     };
     let start = start(random);
-    runs.write(kind, version, start, &records)?;
+    let first = any_first(random, records.len() / 20);
+    runs.write(kind, version, start, first, &records)?;
     Ok(())
 }
 

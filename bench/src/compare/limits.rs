@@ -2,6 +2,7 @@
 
 use super::runs::Runs;
 use super::{Checked, Difference};
+use crate::inputs::numbers::Numbers;
 use crate::inputs::records::{record, Fields};
 use crate::inputs::spelling::Spelled;
 use crate::inputs::style::Style;
@@ -18,38 +19,52 @@ pub fn limits(runs: &mut Runs) -> Checked {
         let rows: Vec<Fields> = (0..MOST_ROWS)
             .map(|_| record(&mut runs.random, version))
             .collect();
-        let most = Spelled::of(&mut runs.random, version, rows, &Style::plain());
-        let none = Spelled::of(&mut runs.random, version, Vec::new(), &Style::plain());
+        let from_two = spelled(runs, version, rows[1..].to_vec(), 2);
+        let most = spelled(runs, version, rows, 1);
+        let none = spelled(runs, version, Vec::new(), 0);
         lists(runs, version as u32, &most.records())?;
-        rows_past_the_last(runs, &most)?;
+        rows_past_the_last(runs, &most, &["1000000", "999999", "000000", "0", "1"])?;
+        rows_past_the_last(runs, &from_two, &["1000000"])?;
         texts(runs, most)?;
         texts(runs, none)?;
     }
     Ok(())
 }
 
-/// As many records as there may be, one byte more, and one record more.
+/// These rows, numbered from the first number on.
+fn spelled(runs: &mut Runs, version: u64, rows: Vec<Fields>, first: u64) -> Spelled {
+    let (numbers, style) = (Numbers::from_first(first), Style::plain());
+    Spelled::of(&mut runs.random, version, rows, &numbers, &style)
+}
+
+/// As many records as there may be, one byte more, and one record more. They can't be numbered from any number but 1 on; one fewer can
+/// from 2 on.
 fn lists(runs: &mut Runs, version: u32, records: &[u8]) -> Checked {
     for more in [0, 1, 20] {
         let number = if more == 0 { 0 } else { 20 };
         let list = [records, &vec![0; more]].concat();
-        let written = runs.write(KIND, version, LAST_START, &list)?;
+        let written = runs.write(KIND, version, LAST_START, 1, &list)?;
         expect("records written", number, 0, &written)?;
         let exported = runs.export(KIND, LAST_START, &list)?;
         expect("records exported", number, 0, &exported)?;
     }
+    for (first, left_out, number) in [(0, 0, 26), (2, 0, 26), (2, 1, 0), (3, 1, 26)] {
+        let list = &records[20 * left_out..];
+        let written = runs.write(KIND, version, LAST_START, first, list)?;
+        expect("records written from a number on", number, 0, &written)?;
+    }
     Ok(())
 }
 
-/// As many rows as there may be, and one more, with several numbers.
-fn rows_past_the_last(runs: &mut Runs, most: &Spelled) -> Checked {
+/// Rows up to the last number, and one more, with each of these numbers.
+fn rows_past_the_last(runs: &mut Runs, most: &Spelled, numbers: &[&str]) -> Checked {
     runs.read(KIND, &most.text, Some((most.answer(), &most.records())))?;
     let lines = most.text.iter().filter(|&&b| b == b'\n').count() as u64;
     let fields = match most.version {
         11 => "0.0 Rx 0123 0",
         _ => "0.000 1 Rx 0123 0",
     };
-    for number in ["1000000", "999999", "000000", "0", "1"] {
+    for number in numbers {
         let row = format!("{number}) {fields}\r\n");
         let text = [&most.text, row.as_bytes()].concat();
         let read = runs.read(KIND, &text, None)?;

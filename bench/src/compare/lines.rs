@@ -2,11 +2,14 @@
 
 use super::runs::Runs;
 use super::Checked;
-use crate::inputs::lines::{noise, RowFields, LAST_NUMBER};
+use crate::inputs::lines::{joined, noise, RowFields};
+use crate::inputs::LAST_NUMBER;
 
 /// The answer for a row, and for all else that is not explained.
 const UNEXPLAINED: [u64; 4] = [30, 0, 0, 0];
 const NO_VERSION: [u64; 4] = [21, 0, 0, 0];
+/// The first field is wrong.
+const WRONG_NUMBER: [u64; 4] = [0, 0, 1, 1];
 const VERSIONS: [u32; 11] = [
     0,
     1,
@@ -23,11 +26,12 @@ const VERSIONS: [u32; 11] = [
 
 pub fn one_row(runs: &mut Runs) -> Checked {
     let row = RowFields::new(&mut runs.random);
-    let (version, number) = (row.version, row.number);
+    let (version, number) = (row.version, row.expected);
     for line in row.good(&mut runs.random) {
         runs.explain("explain: row", &line, version, number, Some(UNEXPLAINED))?;
     }
     elsewhere(runs, &row)?;
+    first_rows(runs, &row)?;
     let random = &mut runs.random;
     let noise = (0..20).map(|_| noise(random)).collect();
     for (kind, lines) in [
@@ -51,7 +55,7 @@ pub fn one_row(runs: &mut Runs) -> Checked {
         runs.explain("explain: comment", &line, version, number, known)?;
     }
     for line in row.nearly_commented(&mut runs.random) {
-        let known = Some([0, 0, 1, 1]);
+        let known = Some(WRONG_NUMBER);
         runs.explain("explain: no comment", &line, version, number, known)?;
     }
     Ok(())
@@ -79,7 +83,7 @@ fn elsewhere(runs: &mut Runs, row: &RowFields) -> Checked {
     ];
     for number in far.into_iter().chain(near) {
         let known = match number {
-            1..=LAST_NUMBER if number != right => [0, 0, 1, 1],
+            1..=LAST_NUMBER if number != right => WRONG_NUMBER,
             _ => UNEXPLAINED,
         };
         let kind = "explain: row of another number";
@@ -91,6 +95,35 @@ fn elsewhere(runs: &mut Runs, row: &RowFields) -> Checked {
     // The digits behind the point are not as many.
     let (kind, known) = ("explain: row of another version", [0, 0, 1, 2]);
     runs.explain(kind, &line, 23 - row.version, right, Some(known))?;
+    Ok(())
+}
+
+/// A row with other numbers, as a first row.
+fn first_rows(runs: &mut Runs, row: &RowFields) -> Checked {
+    let kind = "explain: first row of any number";
+    let (right, any) = (row.number, 1 + runs.random.number() % LAST_NUMBER);
+    let good = [1, 2, 9, 10, 4117, 99_999, 100_000, LAST_NUMBER, right, any];
+    let past = [LAST_NUMBER + 1, LAST_NUMBER + 1 + any, 1 << 32 | right];
+    let odd = ["0)", "00)", "01)", ")", "-1)", "+1)", "1.)", "A)"].map(str::to_string);
+    let near = [
+        format!("0{right})"),
+        format!("{right}"),
+        format!("{right}))"),
+        format!("{right}]"),
+        format!("{right}).0"),
+    ];
+    let good = good.map(|number| (format!("{number})"), UNEXPLAINED));
+    let past = past.map(|number| format!("{number})"));
+    let wrong = past.into_iter().chain(odd).chain(near);
+    for (word, known) in good
+        .into_iter()
+        .chain(wrong.map(|word| (word, WRONG_NUMBER)))
+    {
+        let mut fields = row.fields.clone();
+        fields[0] = word.into_bytes();
+        let line = joined(&mut runs.random, &fields);
+        runs.explain(kind, &line, row.version, 0, Some(known))?;
+    }
     Ok(())
 }
 

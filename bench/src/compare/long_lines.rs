@@ -20,12 +20,13 @@ const ROWS: [&str; 6] = [
 ];
 const WARNING: &str = "Warng FFFFFFFF 4 00 00 00 08";
 /// What long fields are made of.
-const ENDS: [(&str, u8, &str); 10] = [
+const ENDS: [(&str, u8, &str); 11] = [
     ("", b'A', ""),
     ("", b'F', ""),
     ("", b'0', ""),
     ("", b'9', ""),
     ("", b'0', "7)"),
+    ("", b'9', ")"),
     ("7)", b')', ""),
     ("", b'0', ".000"),
     ("0.", b'0', ""),
@@ -36,7 +37,8 @@ const ENDS: [(&str, u8, &str); 10] = [
 const IN_NO_WORD: &[u8] = b"az09@[.)\t\0\x80\xFF;";
 /// The longest lines of many words.
 const RANDOM_LINES: usize = 2_000;
-const NUMBER: u64 = 7;
+/// The number of every row here, with which it is explained, or 0 for a first row of any number.
+const NUMBERS: [u64; 2] = [7, 0];
 const ROW: [u64; 4] = [30, 0, 0, 0];
 
 pub fn long_lines(runs: &mut Runs) -> Checked {
@@ -88,7 +90,8 @@ fn long_fields(runs: &mut Runs, version: u32, fields: &[Vec<u8>], len: usize) ->
             let line = fields.join(&b' ');
             // It may be a comment now.
             let known = (line[0] != b';').then_some(known);
-            runs.explain(kind, &line, version, NUMBER, known)?;
+            let number = runs.random.pick(&NUMBERS);
+            runs.explain(kind, &line, version, number, known)?;
         }
     }
     Ok(())
@@ -117,22 +120,23 @@ fn long(random: &mut Random, len: usize) -> Vec<Vec<u8>> {
 /// So many blanks in each place of a row, and of one that ended early.
 fn long_gaps(runs: &mut Runs, version: u32, fields: &[Vec<u8>], len: usize) -> Checked {
     let kind = "explain: long gap";
+    let number = runs.random.pick(&NUMBERS);
     let blanks = vec![b' '; len];
-    runs.explain(kind, &blanks, version, NUMBER, Some([0, 0, 2, 0]))?;
+    runs.explain(kind, &blanks, version, number, Some([0, 0, 2, 0]))?;
     for at in 0..=fields.len() {
         let (before, after) = fields.split_at(at);
         let (before, after) = (before.join(&b' '), after.join(&b' '));
         let line = [&before, &*blanks, &after].concat();
-        runs.explain(kind, &line, version, NUMBER, Some(ROW))?;
+        runs.explain(kind, &line, version, number, Some(ROW))?;
         let begun = [&before, &*blanks].concat();
-        runs.explain(kind, &begun, version, NUMBER, None)?;
+        runs.explain(kind, &begun, version, number, None)?;
         let comment = [b";", &*line].concat();
-        runs.explain(kind, &comment, version, NUMBER, Some(ROW))?;
+        runs.explain(kind, &comment, version, number, Some(ROW))?;
         let ended = [&*line, b"\n"].concat();
-        runs.explain(kind, &ended, version, NUMBER, Some(ROW))?;
+        runs.explain(kind, &ended, version, number, Some(ROW))?;
     }
     let dollar = [b";", &*blanks, b"$"].concat();
-    runs.explain(kind, &dollar, version, NUMBER, Some([0, 0, 1, 1]))?;
+    runs.explain(kind, &dollar, version, number, Some([0, 0, 1, 1]))?;
     Ok(())
 }
 
@@ -155,7 +159,8 @@ fn words(runs: &mut Runs, version: u32) -> Checked {
         }
     }
     line.extend(vec![b' '; length(random) - 1]);
-    runs.explain("explain: long words", &line, version, NUMBER, Some(known))?;
+    let number = random.pick(&NUMBERS);
+    runs.explain("explain: long words", &line, version, number, Some(known))?;
     Ok(())
 }
 

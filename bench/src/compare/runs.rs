@@ -3,9 +3,9 @@
 use super::both::Both;
 use super::tally::Tally;
 use super::{shown, Difference};
-use crate::inputs::lines::LAST_NUMBER;
 use crate::inputs::random::Random;
 use crate::inputs::records::Fields;
+use crate::inputs::LAST_NUMBER;
 use bushingowl::{explain_refusal, Reason, Refused, RowFault};
 use bushingowl::{LEAST_ROW, MOST_HEADER, MOST_LINE, MOST_ROW, RECORD};
 
@@ -29,12 +29,12 @@ impl Runs {
         &mut self,
         kind: &'static str,
         text: &[u8],
-        known: Option<([u64; 6], &[u8])>,
-    ) -> Result<[u64; 6], Difference> {
+        known: Option<([u64; 7], &[u8])>,
+    ) -> Result<[u64; 7], Difference> {
         let most = (text.len() / LEAST_ROW + 1) * RECORD;
         let answer = self.both.read(text, most)?;
         self.tally.count(kind, answer[0]);
-        let [number, place, version, start, rows, _] = answer;
+        let [number, place, _, _, rows, _, _] = answer;
         let exact = rows as usize * RECORD;
         let records = self.both.output(exact).to_vec();
         if known.is_some_and(|(known, bytes)| known != answer || bytes != records) {
@@ -47,21 +47,17 @@ impl Runs {
         let again = self.both.read(text, room)?;
         self.tally.count("read into other room", again[0]);
         if number == 0 {
-            self.there_and_back(version, start, &records, answer)?;
+            self.there_and_back(&records, answer)?;
         }
         Ok(answer)
     }
 
-    /// What was read must be written, and then read as the same. It can be exported, too.
-    fn there_and_back(
-        &mut self,
-        version: u64,
-        start: u64,
-        records: &[u8],
-        answer: [u64; 6],
-    ) -> Result<(), Difference> {
+    /// What was read must be written with its first number, and then read as the same. It can be exported, too.
+    fn there_and_back(&mut self, records: &[u8], answer: [u64; 7]) -> Result<(), Difference> {
+        let [_, _, version, start, _, _, first] = answer;
         let most = MOST_HEADER + records.len() / RECORD * MOST_ROW;
-        let written = self.both.write(version as u32, start, records, most)?;
+        let version = version as u32;
+        let written = self.both.write(version, start, first, records, most)?;
         self.tally.count("written after reading", written[0]);
         let text = self.both.output(written[2] as usize).to_vec();
         let again = self.both.read(&text, records.len())?;
@@ -80,20 +76,22 @@ impl Runs {
         kind: &'static str,
         version: u32,
         start: u64,
+        first: u64,
         records: &[u8],
     ) -> Result<[u64; 3], Difference> {
         let most = MOST_HEADER + (records.len() / RECORD + 1) * MOST_ROW;
-        let answer = self.both.write(version, start, records, most)?;
+        let answer = self.both.write(version, start, first, records, most)?;
         self.tally.count(kind, answer[0]);
         let exact = answer[2] as usize;
         let text = self.both.output(exact).to_vec();
         let room = self.other_room(exact);
-        let again = self.both.write(version, start, records, room)?;
+        let again = self.both.write(version, start, first, records, room)?;
         self.tally.count("written into other room", again[0]);
         if answer[0] == 0 {
             let read = self.both.read(&text, records.len())?;
             self.tally.count("read after writing", read[0]);
-            let same = read[..4] == [0, 0, u64::from(version), start];
+            let rows = (records.len() / RECORD) as u64;
+            let same = read[..5] == [0, 0, u64::from(version), start, rows] && read[6] == first;
             if !same || self.both.output(records.len()) != records {
                 return Err(self.wrong("what was written is not read as the same", &text));
             }
@@ -203,14 +201,18 @@ impl Runs {
         Ok(())
     }
 
-    /// Explains the line at which a text was refused with 7. It can't be refused, unless it follows the last row that there may be.
-    /// The crate, which finds line, version and number itself, must say the same.
+    /// Explains the line at which a text was refused with 7: as the row that follows the last one before it, or as a first row. It can't be
+    /// refused, unless it follows the last row that there may be. The crate, which finds line, version and number itself, must say the same.
     fn explain_refused(&mut self, text: &[u8], place: u64) -> Result<(), Difference> {
         let mut lines = text.split(|&b| b == b'\n');
         let first = lines.next().unwrap_or_default().trim_ascii_end();
         let version = if first.ends_with(b"1.1") { 11 } else { 12 };
         let before = lines.by_ref().take(place as usize - 2).skip(1);
-        let number = 1 + before.filter(|line| line[0] != b';').count() as u64;
+        let mut rows = before.filter(|line| line[0] != b';');
+        let number = match rows.next() {
+            None => 0,
+            Some(row) => number_of(row) + 1 + rows.count() as u64,
+        };
         let line = lines.next().and_then(|line| line.strip_suffix(b"\r"));
         let line = line.unwrap_or_default();
         let kind = "explain: line refused with 7";
@@ -242,11 +244,18 @@ impl Runs {
     }
 }
 
+/// The number of a row.
+fn number_of(row: &[u8]) -> u64 {
+    let digits = row.trim_ascii_start().iter();
+    let digits = digits.take_while(|byte| byte.is_ascii_digit());
+    digits.fold(0, |number, digit| number * 10 + u64::from(digit - b'0'))
+}
+
 /// The numbers of what the crate says of a line.
 fn numbers(fault: &RowFault) -> [u64; 4] {
     match *fault {
         RowFault::WrongField { field, .. } => [0, 0, 1, field],
         RowFault::EndedEarly { field, .. } => [0, 0, 2, field],
-        RowFault::TooManyRows => [30, 0, 0, 0],
+        RowFault::NoNumberLeft => [30, 0, 0, 0],
     }
 }

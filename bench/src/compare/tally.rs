@@ -4,7 +4,7 @@ use std::collections::BTreeMap;
 use std::ops::RangeInclusive;
 
 /// The numbers that must be seen.
-const NUMBERS: [u64; 16] = [0, 1, 2, 3, 4, 5, 6, 7, 8, 20, 21, 22, 23, 24, 25, 30];
+const NUMBERS: [u64; 17] = [0, 1, 2, 3, 4, 5, 6, 7, 8, 20, 21, 22, 23, 24, 25, 26, 30];
 /// The fields that must be seen as wrong, the last with all behind it, and those after which a line must have ended early.
 const WRONG: RangeInclusive<usize> = 1..=15;
 const EARLY: RangeInclusive<usize> = 0..=13;

@@ -5,18 +5,18 @@
 
 use super::record::{EXTENDED_IDS, STANDARD_IDS};
 use super::tables::{NONE, VALUE};
+use super::LAST_NUMBER;
 use Column::*;
 
-const LAST_NUMBER: u64 = 999_999;
-
-/// Number, place, reason (1 for a wrong field, 2 for a line that ended early) and field.
+/// Number, place, reason (1 for a wrong field, 2 for a line that ended early) and field. The expected number is 0 for a first row, which
+/// may have any.
 pub fn explain(line: &[u8], version: u32, number: u64) -> [u64; 4] {
     let first_columns: &[Column] = match version {
         11 => &[Number, Offset(1)],
         12 => &[Number, Offset(3), Bus],
         _ => return [21, 0, 0, 0],
     };
-    if !(1..=LAST_NUMBER).contains(&number) || holds_an_end(line) || is_comment(line) {
+    if number > LAST_NUMBER || holds_an_end(line) || is_comment(line) {
         return [30, 0, 0, 0];
     }
     match judge(line, first_columns, number) {
@@ -35,7 +35,7 @@ enum Verdict {
 /// What may stand in a column.
 #[derive(Clone, Copy)]
 enum Column {
-    /// The expected number.
+    /// The expected number, or any if that is 0.
     Number,
     /// With so many digits behind the point.
     Offset(usize),
@@ -194,7 +194,13 @@ fn is_comment(line: &[u8]) -> bool {
 impl Column {
     fn admits(self, field: &[u8], number: u64) -> bool {
         match self {
-            Number => matches!(field, [digits @ .., b')'] if decimal(digits, 6) == Some(number)),
+            Number => match field {
+                [digits @ .., b')'] => match decimal(digits, 6) {
+                    None | Some(0) => false,
+                    Some(value) => number == 0 || value == number,
+                },
+                _ => false,
+            },
             Offset(places) => is_offset(field, places),
             Bus => matches!(decimal(field, 2), Some(1..=16)),
             Just(text) => field == text,

@@ -18,9 +18,11 @@ struct Rows {
 
 impl Rows {
     fn new(version: u32, number: u64) -> Self {
+        // A first row may have any number.
+        let some = number.max(1);
         let before = match version {
-            11 => format!("{number}) 0.0"),
-            _ => format!("{number}) 0.000 1"),
+            11 => format!("{some}) 0.0"),
+            _ => format!("{some}) 0.000 1"),
         };
         let mut rows = vec![
             format!("{before} Warng FFFFFFFF 4 00 00 00 00"),
@@ -48,15 +50,16 @@ impl Rows {
         window[..line.len()].copy_from_slice(line);
         window[line.len()..][..2].copy_from_slice(b"\r\n");
         let read = row::<false>(&window, self.number, self.version == 12);
-        read.is_some_and(|(_, len)| len == line.len() + 2)
+        read.is_some_and(|(.., len)| len == line.len() + 2)
     }
 
     /// Whether some row begins with these fields.
     fn begins(&self, fields: &[&[u8]]) -> bool {
         let begin = fields.join(&b' ');
-        self.tails
-            .iter()
-            .any(|tail| self.is_row(&[&begin, &tail[..]].concat()))
+        // A tail without a blank first, a whole row, would go on with the last field.
+        let apart = |tail: &[u8]| begin.is_empty() || matches!(tail, [] | [b' ', ..]);
+        let mut tails = self.tails.iter().filter(|tail| apart(tail));
+        tails.any(|tail| self.is_row(&[&begin, &tail[..]].concat()))
     }
 
     /// What the line must be answered.
@@ -83,7 +86,7 @@ impl Rows {
 fn is_comment(line: &[u8]) -> bool {
     let before = b";$FILEVERSION=1.2\r\n;$STARTTIME=0.0\r\n";
     let text = [before, line, b"\r\n"].concat();
-    read(&text, &mut []) == [0, 0, 12, 0, 0, 0]
+    read(&text, &mut []) == [0, 0, 12, 0, 0, 0, 0]
 }
 
 #[test]
@@ -92,7 +95,7 @@ fn explained_as_meant() {
     let (mut lines, mut counts) = (0, [0; 3]);
     for _ in 0..24 {
         let base = RowFields::new(&mut random);
-        let rows = Rows::new(base.version, base.number);
+        let rows = Rows::new(base.version, base.expected);
         let mut all = base.good(&mut random);
         all.extend(base.damaged(&mut random));
         all.extend(base.rearranged(&mut random));
@@ -103,10 +106,10 @@ fn explained_as_meant() {
         all.extend((0..50).map(|_| noise(&mut random)));
         // So long that the longest end of a row fits behind it.
         for line in all.iter().filter(|line| line.len() <= LONGEST - 64) {
-            let answer = explain(line, base.version, base.number);
+            let answer = explain(line, base.version, base.expected);
             let meant = rows.meant(line);
             let shown = line.escape_ascii();
-            assert_eq!(answer, meant, "{shown}, {} {}", base.version, base.number);
+            assert_eq!(answer, meant, "{shown}, {} {}", base.version, base.expected);
             lines += 1;
             counts[answer[2] as usize] += 1;
         }

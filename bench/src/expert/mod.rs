@@ -25,6 +25,8 @@ pub use reader::read;
 pub use record::{pack, unpack};
 pub use writer::write;
 
+/// The last row number.
+const LAST_NUMBER: u64 = 999_999;
 /// The bytes of a packed record.
 const RECORD: usize = 20;
 /// The most bytes of packed records in one call.

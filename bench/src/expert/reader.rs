@@ -8,62 +8,71 @@ use super::{Refusal, DAY, LAST_START, RECORD};
 
 const LONGEST_TEXT: usize = 134_217_728;
 
-pub fn read(text: &[u8], out: &mut [u8]) -> [u64; 6] {
+pub fn read(text: &[u8], out: &mut [u8]) -> [u64; 7] {
     match read_or_refuse(text, out) {
-        Ok([version, start, rows, step_back]) => [0, 0, version, start, rows, step_back],
-        Err((number, place)) => [number, place, 0, 0, 0, 0],
+        Ok([version, start, rows, step_back, first]) => {
+            [0, 0, version, start, rows, step_back, first]
+        }
+        Err((number, place)) => [number, place, 0, 0, 0, 0, 0],
     }
 }
 
-fn read_or_refuse(text: &[u8], out: &mut [u8]) -> Result<[u64; 4], Refusal> {
+fn read_or_refuse(text: &[u8], out: &mut [u8]) -> Result<[u64; 5], Refusal> {
     if text.len() > LONGEST_TEXT {
         return Err((1, 0));
     }
     let (version, text) = header(text, (4, 1), version)?;
     let (start, text) = header(text, (5, 2), start)?;
     // No value is needed before all is judged; so the first pass works out none.
-    let rows = each_row::<false>(text, version, |_, _| ())?;
+    let (rows, first) = each_row::<false>(text, version, |_, _| ())?;
     let out = out.get_mut(..rows as usize * RECORD).ok_or((8, 0))?;
     let mut records = out.as_chunks_mut().0.iter_mut();
     let (mut before, mut step_back) = (0, 0);
-    each_row::<true>(text, version, |number, fields| {
+    each_row::<true>(text, version, |position, fields| {
         if fields.offset < before && step_back == 0 {
-            step_back = number;
+            step_back = position;
         }
         before = fields.offset;
         if let Some(record) = records.next() {
             fields.store(record);
         }
     })?;
-    Ok([version, start, rows, step_back])
+    Ok([version, start, rows, step_back, first])
 }
 
-/// One pass over the lines from the third on. Gives the number of rows. `JUDGED` says that a pass has taken them before.
+/// One pass over the lines from the third on. Gives how many rows there are, and the number of the first, 0 if there is none.
+/// Each row is taken with its position, from 1. `JUDGED` says that a pass has taken them before.
 #[inline(always)]
 fn each_row<const JUDGED: bool>(
     mut text: &[u8],
     version: u64,
     mut take: impl FnMut(u64, &Fields),
-) -> Result<u64, Refusal> {
-    let (mut place, mut number) = (3, 1);
+) -> Result<(u64, u64), Refusal> {
+    let (mut place, mut rows, mut first) = (3, 0, 0);
+    // Any number will do for the first row.
+    let mut expected = 0;
     let mut padding = [0; size_of::<Window>()];
-    while let Some(&first) = text.first() {
-        if first == b';' {
+    while let Some(&byte) = text.first() {
+        if byte == b';' {
             text = comment(text, place)?;
         } else {
             let window = match text.first_chunk() {
                 Some(window) => window,
                 None => padded(text, &mut padding),
             };
-            let (fields, len) =
-                row::<JUDGED>(window, number, version == 12).ok_or_else(|| no_row(text, place))?;
-            take(number, &fields);
-            number += 1;
+            let (number, fields, len) = row::<JUDGED>(window, expected, version == 12)
+                .ok_or_else(|| no_row(text, place))?;
+            if rows == 0 {
+                first = number;
+            }
+            expected = number + 1;
+            rows += 1;
+            take(rows, &fields);
             text = &text[len..];
         }
         place += 1;
     }
-    Ok(number - 1)
+    Ok((rows, first))
 }
 
 /// The window of a text that does not fill it: zeros follow, which no row has.

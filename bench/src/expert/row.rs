@@ -3,17 +3,18 @@
 use super::cursor::{Cursor, Window, LONGEST, TOGETHER};
 use super::record::{error, Fields, ERROR, EXTENDED_IDS, REMOTE, STANDARD_IDS, WARNING};
 
-/// Reads the row at the beginning of a window, and gives the bytes it has with its line end.
+/// Reads the row at the beginning of a window, and gives its number and the bytes it has with its line end.
+/// The expected number is 0 for a first row, which may have any.
 /// The rows of version 1.2 are those with a bus. `JUDGED` says that the row was taken before.
 #[inline(always)]
 pub fn row<const JUDGED: bool>(
     window: &Window,
-    number: u64,
+    expected: u64,
     with_bus: bool,
-) -> Option<(Fields, usize)> {
+) -> Option<(u64, Fields, usize)> {
     let mut cursor = Cursor::<JUDGED>::new(window);
     cursor.blanks()?;
-    cursor.number(number)?;
+    let number = cursor.number(expected)?;
     cursor.gap()?;
     let (offset, bus) = match with_bus {
         true => (cursor.offset_of_three_digits()?, cursor.bus()?),
@@ -30,6 +31,7 @@ pub fn row<const JUDGED: bool>(
     let len = cursor.at();
     cursor.must(len <= LONGEST + 2)?;
     Some((
+        number,
         Fields {
             offset,
             bus,
@@ -40,12 +42,13 @@ pub fn row<const JUDGED: bool>(
 }
 
 impl<const JUDGED: bool> Cursor<'_, JUDGED> {
-    /// The row number and `)`.
+    /// The row number and `)`: the expected number, or for 0 any from 1 to 999,999, which are those of up to six digits.
     #[inline(always)]
-    fn number(&mut self, number: u64) -> Option<()> {
-        let value = self.decimal::<6>()?;
-        self.must(value == number)?;
-        self.text(b")")
+    fn number(&mut self, expected: u64) -> Option<u64> {
+        let number = self.decimal::<6>()?;
+        self.must(number != 0 && (number == expected || expected == 0))?;
+        self.text(b")")?;
+        Some(number)
     }
 
     /// The offset of version 1.1 in microseconds.

@@ -13,7 +13,8 @@ const START: u64 = 3_160_987_200_000;
 #[test]
 fn small_trace() {
     let mut records = [0xAA; 3 * RECORD];
-    assert_eq!(read(TEXT.as_bytes(), &mut records), [0, 0, 12, START, 3, 3]);
+    let read = read(TEXT.as_bytes(), &mut records);
+    assert_eq!(read, [0, 0, 12, START, 3, 3, 1]);
     let first = [0, 0, 0, 0, 0, 0, 8, 0, 0, 4, 0x8C, 0x82, 0xBF, 0xC0];
     assert_eq!(records[..14], first);
     assert_eq!(records[14..RECORD], [0; 6]);
@@ -21,7 +22,7 @@ fn small_trace() {
     let written = TEXT.replace("36585.5", "36585.5000000000");
     let mut out = vec![0; written.len()];
     let len = out.len() as u64;
-    assert_eq!(write(12, START, &records, &mut out), [0, 0, len]);
+    assert_eq!(write(12, START, 1, &records, &mut out), [0, 0, len]);
     assert_eq!(out, written.as_bytes());
 
     let mut out = vec![0; LINES.len()];
@@ -50,7 +51,9 @@ fn limits_of_a_row() {
             "1) 0.000 1 Warng FFFFFFFF 4 00 00 00 08 AB",
             "1) 0.000 1 Warng FFFFFFF 4 00 00 00 08 AB",
         ),
-        (" 1)  0.000  1  Rx  0000  1  0a ", "2) 0.000 1 Rx 0000 1 0a"),
+        (" 1)  0.000  1  Rx  0000  1  0a ", "0) 0.000 1 Rx 0000 1 0a"),
+        ("999999) 0.000 1 Rx 0000 0", "1000000) 0.000 1 Rx 0000 0"),
+        ("4117) 0.000 1 Rx 0000 0", "04117) 0.000 1 Rx 0000 0"),
     ] {
         for (row, number) in [(taken, 0), (refused, 7)] {
             assert_eq!(number_of(row), number, "{row}");
@@ -65,6 +68,74 @@ fn limits_of_a_row() {
 fn number_of(row: &str) -> u64 {
     let text = format!(";$FILEVERSION=1.2\r\n;$STARTTIME=0.0\r\n{row}\r\n");
     read(text.as_bytes(), &mut [0; RECORD])[0]
+}
+
+/// Version 1.1 with rows of these numbers, comments between them, and offsets that fall.
+fn numbered(numbers: &[&str]) -> String {
+    let mut text = ";$FILEVERSION=1.1\r\n;$STARTTIME=0.0\r\n".to_string();
+    for (row, number) in numbers.iter().enumerate() {
+        text += &format!(
+            ";{row}) 0.0 Rx 0123 0\r\n  {number}) {}.0 Rx 0123 0\r\n",
+            9 - row
+        );
+    }
+    text
+}
+
+#[test]
+fn first_numbers() {
+    let answer = |numbers: &[&str]| read(numbered(numbers).as_bytes(), &mut [0; 4 * RECORD]);
+    assert_eq!(answer(&[]), [0, 0, 11, 0, 0, 0, 0]);
+    for first in [1, 2, 9, 4117, 999_998] {
+        let [one, two] = [first, first + 1].map(|number: u64| number.to_string());
+        assert_eq!(answer(&[&one]), [0, 0, 11, 0, 1, 0, first]);
+        assert_eq!(answer(&[&one, &two]), [0, 0, 11, 0, 2, 2, first]);
+        let last = [first - 1, first, first + 2].map(|number| number.to_string());
+        for other in [&last[0], &last[1], &last[2], "1", "0", "1000000"] {
+            if *other != two {
+                assert_eq!(answer(&[&one, other]), [7, 6, 0, 0, 0, 0, 0]);
+            }
+        }
+    }
+    assert_eq!(answer(&["999999"]), [0, 0, 11, 0, 1, 0, 999_999]);
+    for next in ["1000000", "999999", "999998", "0", "1"] {
+        assert_eq!(answer(&["999999", next]), [7, 6, 0, 0, 0, 0, 0]);
+    }
+    for number in ["0", "00", "01", "04117", "1000000", "", "+1", "-1"] {
+        assert_eq!(answer(&[number]), [7, 4, 0, 0, 0, 0, 0], "{number}");
+    }
+}
+
+#[test]
+fn first_numbers_written() {
+    let text = numbered(&["4117", "4118", "4119"]);
+    let mut records = [0; 3 * RECORD];
+    read(text.as_bytes(), &mut records);
+    let mut out = [0; 1000];
+    let mut written = |first, rows: usize| {
+        let [number, place, bytes] = write(11, 0, first, &records[..rows * RECORD], &mut out);
+        assert_eq!(place, 0);
+        match number {
+            0 => Ok(read(&out[..bytes as usize], &mut [0; 3 * RECORD])),
+            _ => Err((number, bytes)),
+        }
+    };
+    assert_eq!(written(0, 0), Ok([0, 0, 11, 0, 0, 0, 0]));
+    for first in [1, 2, 8, 4117, 999_997] {
+        assert_eq!(written(first, 3), Ok([0, 0, 11, 0, 3, 2, first]));
+        assert_eq!(written(first, 0), Err((26, 0)));
+    }
+    assert_eq!(written(999_999, 1), Ok([0, 0, 11, 0, 1, 0, 999_999]));
+    let far = [1_000_000, 1 << 32 | 1, u64::MAX - 1, u64::MAX];
+    for first in [0, 999_998, 999_999].into_iter().chain(far) {
+        assert_eq!(written(first, 3), Err((26, 0)));
+    }
+    // 22 comes before it, and 23 behind.
+    let mut bad = records;
+    bad[2 * RECORD - 1] = 1;
+    assert_eq!(write(11, START * 3, 0, &bad, &mut out), [22, 0, 0]);
+    assert_eq!(write(11, START, 0, &bad, &mut out), [26, 0, 0]);
+    assert_eq!(write(11, START, 4117, &bad, &mut out), [23, 2, 0]);
 }
 
 const ROW: [u64; 4] = [30, 0, 0, 0];
@@ -273,13 +344,25 @@ fn refused_and_comments() {
             assert_eq!(explain(line.as_bytes(), version, number), [21, 0, 0, 0]);
         }
     }
-    for number in [0, 1_000_000, 1 << 32 | 7, u64::MAX] {
+    for number in [1_000_000, 1 << 32 | 7, u64::MAX] {
         for line in [row, "", "x", ";$", "0) 0.000 1 Rx 0123 0"] {
             assert_eq!(explain(line.as_bytes(), 12, number), [30, 0, 0, 0]);
         }
     }
     for number in [1, 6, 8, 70, 999_999] {
         assert_eq!(explain(row.as_bytes(), 12, number), wrong(1));
+    }
+    let first = |line: &str| explain(line.as_bytes(), 12, 0);
+    for number in [1, 7, 4117, 999_999] {
+        assert_eq!(first(&format!("{number}) 0.000 1 Rx 0123 0")), ROW);
+        assert_eq!(first(&format!("{number}) 0.000 17 Rx 0123 0")), wrong(3));
+        assert_eq!(first(&format!("{number})")), early(1));
+    }
+    for number in ["0", "01", "04117", "1000000", ""] {
+        assert_eq!(first(&format!("{number}) 0.000 1 Rx 0123 0")), wrong(1));
+    }
+    for (line, answer) in [("", early(0)), (";", ROW), ("\r", ROW), (";$", wrong(1))] {
+        assert_eq!(first(line), answer, "{line}");
     }
     for line in [";", ";;", ";  ", "; a$", ";\t$", "; ;$", ";7) 0.000", ";\0"] {
         assert_eq!(seventh(line), [30, 0, 0, 0], "{line}");

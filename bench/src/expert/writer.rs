@@ -4,10 +4,10 @@ use super::clock::fraction;
 use super::pen::{digits, Pen};
 use super::record::{Fields, ERROR, WARNING};
 use super::tables::CAPITAL;
-use super::{whole_records, Refusal, DAY, LAST_START, RECORD};
+use super::{whole_records, Refusal, DAY, LAST_NUMBER, LAST_START, RECORD};
 
-pub fn write(version: u32, start: u64, records: &[u8], out: &mut [u8]) -> [u64; 3] {
-    match write_or_refuse(version, start, records, out) {
+pub fn write(version: u32, start: u64, first: u64, records: &[u8], out: &mut [u8]) -> [u64; 3] {
+    match write_or_refuse(version, start, first, records, out) {
         Ok(bytes) => [0, 0, bytes as u64],
         Err((number, place)) => [number, place, 0],
     }
@@ -16,6 +16,7 @@ pub fn write(version: u32, start: u64, records: &[u8], out: &mut [u8]) -> [u64; 
 fn write_or_refuse(
     version: u32,
     start: u64,
+    first: u64,
     records: &[u8],
     out: &mut [u8],
 ) -> Result<usize, Refusal> {
@@ -26,23 +27,34 @@ fn write_or_refuse(
     if start > LAST_START {
         return Err((22, 0));
     }
+    if !numbered(first, records.len() as u64) {
+        return Err((26, 0));
+    }
     let with_bus = version == 12;
-    let total = header_length(start) + measure(records, with_bus)?;
+    let total = header_length(start) + measure(records, first, with_bus)?;
     let mut pen = Pen::new(out.get_mut(..total).ok_or((25, 0))?);
     put_header(&mut pen, start, with_bus);
-    for (number, record) in (1..).zip(records) {
+    for (number, record) in (first..).zip(records) {
         put_row(&mut pen, number, &Fields::load(record), with_bus);
     }
     Ok(total)
 }
 
+/// Whether so many rows may be numbered from the first number on. No rows have 0.
+fn numbered(first: u64, rows: u64) -> bool {
+    match rows {
+        0 => first == 0,
+        _ => (1..=LAST_NUMBER).contains(&first) && first + (rows - 1) <= LAST_NUMBER,
+    }
+}
+
 /// The bytes of all rows.
-fn measure(records: &[[u8; RECORD]], with_bus: bool) -> Result<usize, Refusal> {
+fn measure(records: &[[u8; RECORD]], first: u64, with_bus: bool) -> Result<usize, Refusal> {
     let (mut sum, mut uncarried) = (0, 0);
-    for (number, record) in (1..).zip(records) {
-        let fields = Fields::judge(record).ok_or((23, number))?;
+    for (position, (number, record)) in (1..).zip((first..).zip(records)) {
+        let fields = Fields::judge(record).ok_or((23, position))?;
         if uncarried == 0 && !carried(&fields, with_bus) {
-            uncarried = number;
+            uncarried = position;
         }
         sum += row_length(number, &fields, with_bus);
     }

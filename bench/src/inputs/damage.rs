@@ -1,9 +1,12 @@
 //! Damage to texts and to packed records.
 
 use super::random::Random;
+use super::LAST_NUMBER;
+use std::ops::Range;
 
 /// Words that stand on either side of a limit, or look right.
-pub const WORDS: &str = "0|1|2|3|4|7|8|9|01|10|15|16|17|00|1)|2)|3)|0)|01)|999999)|1000000)|1 )|)|\
+pub const WORDS: &str =
+    "0|1|2|3|4|7|8|9|01|10|15|16|17|00|1)|2)|3)|0)|01)|4117)|999998)|999999)|1000000)|1 )|)|\
     0.0|0.000|00.000|1.0|1.00|1.000|1.0000|.5|5.|4294967296.000|\
     99999999999.9|99999999999.999|100000000000.0|100000000000.000|\
     Rx|Tx|rx|RX|Warng|Error|Warning|RTR|rtr|RT|BUSLIGHT|0A|G0|\
@@ -32,10 +35,11 @@ pub fn damage(random: &mut Random, text: &mut Vec<u8>) {
     };
     let mut rows = text.split_off(rows_at);
     for _ in 0..random.pick(&[1, 1, 1, 2, 3]) {
-        match random.below(4) {
+        match random.below(5) {
             0 => damage_byte(random, &mut rows),
             1 => damage_line_end(random, &mut rows),
             2 => damage_lines(random, &mut rows),
+            3 => damage_numbers(random, &mut rows),
             _ => damage_word(random, &mut rows),
         }
     }
@@ -95,6 +99,59 @@ fn damage_lines(random: &mut Random, text: &mut Vec<u8>) {
         }
     }
     *text = lines.concat();
+}
+
+/// Numbers one row, all from some row on or all rows otherwise.
+fn damage_numbers(random: &mut Random, text: &mut Vec<u8>) {
+    let mut lines: Vec<Vec<u8>> = text
+        .split_inclusive(|&b| b == b'\n')
+        .map(<[u8]>::to_vec)
+        .collect();
+    let mut rows: Vec<(&mut Vec<u8>, Range<usize>, i64)> = Vec::new();
+    for line in &mut lines {
+        let digits = number_in(line);
+        let number = String::from_utf8_lossy(&line[digits.clone()]).parse();
+        if let Ok(number) = number {
+            rows.push((line, digits, number));
+        }
+    }
+    if rows.is_empty() {
+        return;
+    }
+    let at = random.below(rows.len());
+    let (begin, end) = match random.below(3) {
+        0 => (at, at + 1),
+        1 => (at, rows.len()),
+        _ => (0, rows.len()),
+    };
+    let old = rows[begin].2;
+    // The last row has the last number, or passes it.
+    let late = LAST_NUMBER as i64 + 1 - random.between(0, rows.len()) as i64;
+    let any = random.number() as i64 % 1_100_000;
+    let new = random.pick(&[
+        old + 1,
+        old + 1,
+        old - 1,
+        old - 1,
+        0,
+        1,
+        4117,
+        late,
+        late,
+        any,
+    ]);
+    for (line, digits, number) in &mut rows[begin..end] {
+        let number = number.saturating_add(new.saturating_sub(old));
+        line.splice(digits.clone(), number.to_string().bytes());
+    }
+    *text = lines.concat();
+}
+
+/// Where the digits stand with which a line begins behind any blanks.
+fn number_in(line: &[u8]) -> Range<usize> {
+    let begin = line.iter().take_while(|&&b| b == b' ').count();
+    let digits = line[begin..].iter().take_while(|b| b.is_ascii_digit());
+    begin..begin + digits.count()
 }
 
 /// Blanks or other bytes, so that the line has about as many bytes as it may.

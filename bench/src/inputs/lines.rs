@@ -4,13 +4,14 @@ use super::damage::{damage_byte, next_number, ALPHABET, WORDS};
 use super::random::Random;
 use super::records::record;
 use super::style::Style;
-
-pub const LAST_NUMBER: u64 = 999_999;
+use super::LAST_NUMBER;
 
 /// A row of a version with a number, as its fields.
 pub struct RowFields {
     pub version: u32,
     pub number: u64,
+    /// The number with which it is explained: its own, or 0 for a first row of any number.
+    pub expected: u64,
     pub fields: Vec<Vec<u8>>,
 }
 
@@ -26,10 +27,11 @@ impl RowFields {
         let small = 1 + random.mostly_small(200) as u64;
         let number = random.pick(&[any, small, small, 1, 9, 10, 99_999, 100_000, LAST_NUMBER]);
         let record = record(random, version);
-        let words = Style::new(random).words(random, version, number as usize, &record);
+        let words = Style::new(random).words(random, version, &number.to_string(), &record);
         RowFields {
             version: version as u32,
             number,
+            expected: random.pick(&[number, number, 0]),
             fields: words.into_iter().map(String::into_bytes).collect(),
         }
     }

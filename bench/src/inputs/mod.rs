@@ -3,11 +3,14 @@
 pub mod damage;
 pub mod lines;
 pub mod noise;
+pub mod numbers;
 pub mod random;
 pub mod realistic;
 pub mod records;
 pub mod spelling;
 pub mod style;
 
+/// The last row number.
+pub const LAST_NUMBER: u64 = 999_999;
 /// The latest start in milliseconds.
 pub const LAST_START: u64 = 8_639_999_999_999;

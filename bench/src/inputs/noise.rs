@@ -29,7 +29,8 @@ pub fn letters(random: &mut Random) -> Vec<u8> {
 pub fn words(random: &mut Random) -> Vec<u8> {
     let version = random.pick(&[11, 12]);
     let mut text = beginning(random, version);
-    for row in 1..random.between(2, 5) {
+    let first = random.pick(&[1, 1, 1, 2, 98, 4117, 999_997, 999_998, 999_999]);
+    for row in first..first + random.between(1, 4) {
         let number = format!("{row})");
         let mut columns = vec![number.as_str()];
         match version {

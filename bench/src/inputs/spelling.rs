@@ -1,15 +1,20 @@
 //! A trace, and a text that spells it.
 
+use super::numbers::Numbers;
 use super::random::Random;
 use super::records::{packed_all, record, Fields};
 use super::style::Style;
-use super::LAST_START;
+use super::{LAST_NUMBER, LAST_START};
 
 pub struct Spelled {
     pub version: u64,
     pub start: u64,
     pub rows: Vec<Fields>,
     pub text: Vec<u8>,
+    /// The number of the first row, or 0 without rows.
+    first: u64,
+    /// The line of the first row that has not the number which it must have, if there is one.
+    pub wrong: Option<u64>,
 }
 
 impl Spelled {
@@ -18,12 +23,19 @@ impl Spelled {
         let version = random.pick(&[11, 12]);
         let count = random.mostly_small(most_rows + 1);
         let rows = (0..count).map(|_| record(random, version)).collect();
+        let numbers = Numbers::new(random, count);
         let style = Style::new(random);
-        Self::of(random, version, rows, &style)
+        Self::of(random, version, rows, &numbers, &style)
     }
 
     /// These rows after a start at random.
-    pub fn of(random: &mut Random, version: u64, rows: Vec<Fields>, style: &Style) -> Self {
+    pub fn of(
+        random: &mut Random,
+        version: u64,
+        rows: Vec<Fields>,
+        numbers: &Numbers,
+        style: &Style,
+    ) -> Self {
         let (digits, start) = start(random);
         let mut text = Vec::new();
         style.setting(
@@ -32,9 +44,19 @@ impl Spelled {
             &format!("$FILEVERSION=1.{}", version - 10),
         );
         style.setting(random, &mut text, &format!("$STARTTIME={digits}"));
+        let (mut first, mut wrong) = (0, None);
         for (before, fields) in rows.iter().enumerate() {
             style.comments(random, &mut text);
-            style.row(random, &mut text, version, before + 1, fields);
+            let word = numbers.word(before);
+            let number = word.parse().unwrap_or(0);
+            if before == 0 {
+                first = number;
+            }
+            let spelled = (1..=LAST_NUMBER).contains(&number) && word == number.to_string();
+            if wrong.is_none() && !(spelled && number == first + before as u64) {
+                wrong = Some(1 + text.iter().filter(|&&b| b == b'\n').count() as u64);
+            }
+            style.row(random, &mut text, version, &word, fields);
         }
         style.comments(random, &mut text);
         Spelled {
@@ -42,20 +64,29 @@ impl Spelled {
             start,
             rows,
             text,
+            first,
+            wrong,
         }
     }
 
     /// What a reader must answer.
-    pub fn answer(&self) -> [u64; 6] {
+    pub fn answer(&self) -> [u64; 7] {
+        if let Some(line) = self.wrong {
+            return [7, line, 0, 0, 0, 0, 0];
+        }
         let falls = self.rows.windows(2).position(|two| two[1][0] < two[0][0]);
         let step_back = falls.map_or(0, |before| before as u64 + 2);
         let rows = self.rows.len() as u64;
-        [0, 0, self.version, self.start, rows, step_back]
+        let (version, start) = (self.version, self.start);
+        [0, 0, version, start, rows, step_back, self.first]
     }
 
     /// What a reader must write.
     pub fn records(&self) -> Vec<u8> {
-        packed_all(&self.rows)
+        match self.wrong {
+            Some(_) => Vec::new(),
+            None => packed_all(&self.rows),
+        }
     }
 }
 

@@ -63,7 +63,7 @@ impl Style {
         random: &mut Random,
         text: &mut Vec<u8>,
         version: u64,
-        number: usize,
+        number: &str,
         fields: &Fields,
     ) {
         let words = self.words(random, version, number, fields);
@@ -93,7 +93,7 @@ impl Style {
         &self,
         random: &mut Random,
         version: u64,
-        number: usize,
+        number: &str,
         fields: &Fields,
     ) -> Vec<String> {
         let [offset, bus, kind, extended, id, length, data] = *fields;
