@@ -1,5 +1,5 @@
 -- Laws on packed records: their bytes, in order.
-use Prim.Native.Nat.{ℕ, _+_, _*_, _≤_}
+use Prim.Native.Nat.{ℕ, _+_, _*_, _/_, _≤_}
 use mathlib.Core.Path.{_≡_, refl, ap, sym, _∙_}
 use mathlib.Core.List.{List, [], _∷_, _++_, append-assoc, append-nil}
 use native.Mathlib.Omega.{arith}
@@ -36,6 +36,10 @@ pub packed-length : (rs : List Record) → length (packed rs) ≡ 20 * length rs
 unfolding packed
 packed-length [] = refl
 packed-length (r ∷ rs) = rw length-append (omega (arith, length-bytes 20 (number r), packed-length rs))
+
+-- So the bytes tell how many records they are.
+pub packed-count : {s : List ℕ} (rs : List Record) → s ≡ packed rs → length s / 20 ≡ length rs
+packed-count rs e = omega (arith, ap length e, packed-length rs)
 
 -- The twenty bytes at a place, and what stands behind them.
 pub twenty : (at : ℕ) (s : List ℕ) → at + 20 ≤ length s → length (take 20 (drop at s)) ≡ 20

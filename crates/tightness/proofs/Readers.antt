@@ -17,8 +17,8 @@ use Rattle.trace.proofs.Answers as answers
 use Rattle.trace.proofs.Answers.{not-refused}
 use Rattle.trace.proofs.One.{one-trace}
 use Rattle.trace.proofs.There.{there, there-size}
-use Rattle.tightness.specs.Programs.{Lent, Reader, KeepsRead}
-use Rattle.tightness.specs.Wrong.{RefusesAll, SameVersion, SameStart, SameFirst, SameRecords, CopiesFirst, InventsRows, SaysOne}
+use Rattle.tightness.specs.Programs.{Lent, FromReader, Reader, KeepsRead, handedOut}
+use Rattle.tightness.specs.Wrong.{RefusesAll, Always, SameVersion, SameStart, SameFirst, SameRecords, CopiesFirst, InventsRows, SaysOne}
 use Rattle.tightness.specs.Tight.{HandsOut, received12, Tried, empty, later, older, two, copied, middle}
 use Rattle.tightness.proofs.Tried.{received-formed, writable, zeros, textOf}
 
@@ -72,23 +72,19 @@ module _ {f : Reader} (k : KeepsRead f) where
   pub refuses-all : RefusesAll f → ⊥
   refuses-all h = h (textOf empty) (zeros 40) (tries empty .accepted)
 
+  -- What is always the same is the same for two of them.
+  both : {A : Type 0} {t u : Trace} (part : FromReader → A) (w : Tried t) (x : Tried u) → Always part f
+      → part (f (textOf w) (zeros 40)) ≡ part (f (textOf x) (zeros 40))
+  both part w x h = h (textOf w) (textOf x) (zeros 40) (tries w .accepted) (tries x .accepted)
+
   pub same-version : SameVersion f → ⊥
-  same-version h =
-      let a = tries empty in
-      let b = tries older in
-      omega (arith, a .version, b .version, h (textOf empty) (textOf older) (zeros 40) (a .accepted) (b .accepted))
+  same-version h = omega (arith, tries empty .version, tries older .version, both (λ a. a .version) empty older h)
 
   pub same-start : SameStart f → ⊥
-  same-start h =
-      let a = tries empty in
-      let b = tries later in
-      omega (arith, a .start, b .start, h (textOf empty) (textOf later) (zeros 40) (a .accepted) (b .accepted))
+  same-start h = omega (arith, tries empty .start, tries later .start, both (λ a. a .start) empty later h)
 
   pub same-first : SameFirst f → ⊥
-  same-first h =
-      let a = tries two in
-      let b = tries middle in
-      omega (arith, a .first, b .first, h (textOf two) (textOf middle) (zeros 40) (a .accepted) (b .accepted))
+  same-first h = omega (arith, tries two .first, tries middle .first, both (λ a. a .first) two middle h)
 
   pub says-one : SaysOne f → ⊥
   says-one h =
@@ -97,9 +93,7 @@ module _ {f : Reader} (k : KeepsRead f) where
 
   pub same-records : SameRecords f → ⊥
   same-records h =
-      let a = tries empty in
-      let b = tries two in
-      let e = sym (a .records) ∙ h (textOf empty) (textOf two) (zeros 40) (a .accepted) (b .accepted) ∙ b .records in
+      let e = sym (tries empty .records) ∙ both handedOut empty two h ∙ tries two .records in
       omega (arith, ap length e, packed-length [], packed-length (received12 0 1 ∷ received12 0 2 ∷ []))
 
   pub copies-first : CopiesFirst f → ⊥

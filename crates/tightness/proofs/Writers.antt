@@ -81,27 +81,30 @@ module _ {g : Writer} (k : KeepsWrite g) where
       let e = sym (a .output) ∙ h 12 0 0 (recordsOf t) (zeros n) in
       omega (arith, semicolon t (drop (length (traceText t)) (zeros n .list)), ap (λ (s : List ℕ). getD s 0 0) e)
 
+  -- Two traces, each with room for both: what is written for them tells them apart.
+  module _ {t u : Trace} (w : Tried t) (x : Tried u) where
+    abbrev page : Lent
+    page = zeros (length (traceText t) + length (traceText u))
+
+    first-put : Puts t (page .list) (g (t .version) (t .start) (t .first) (recordsOf t) page)
+    first-put = puts w page (omega (arith, length-replicate {A = ℕ} (length (traceText t) + length (traceText u)) 0))
+
+    second-put : Puts u (page .list) (g (u .version) (u .start) (u .first) (recordsOf u) page)
+    second-put = puts x page (omega (arith, length-replicate {A = ℕ} (length (traceText t) + length (traceText u)) 0))
+
+    told-apart : writtenText (g (t .version) (t .start) (t .first) (recordsOf t) page) ≡ writtenText (g (u .version) (u .start) (u .first) (recordsOf u) page)
+        → t ≡ u
+    told-apart e = one-house (writable w) (writable x) (sym (first-put .text) ∙ e ∙ second-put .text)
+
   pub writes-first : WritesFirst g → ⊥
   writes-first h =
-      let t = traceOf 12 0 1 (received12 0 1 ∷ received12 0 2 ∷ []) in
-      let u = traceOf 12 0 1 (received12 0 1 ∷ received12 0 1 ∷ []) in
-      let n = length (traceText t) + length (traceText u) in
-      let l = length-replicate {A = ℕ} n 0 in
-      let a = puts two (zeros n) (omega arith) in
-      let b = puts copied (zeros n) (omega arith) in
-      let e = sym (a .text) ∙ h 12 0 1 (received12 0 1) (received12 0 2 ∷ []) (recordsOf t) (recordsOf u) (zeros n) refl refl ∙ b .text in
-      omega (arith, ap (λ (x : Trace). getD (x .records) 1 (received12 0 0) .id) (one-house (writable two) (writable copied) e))
+      let e = told-apart two copied (h 12 0 1 (received12 0 1) (received12 0 2 ∷ []) _ _ (page two copied) refl refl) in
+      omega (arith, ap (λ (x : Trace). getD (x .records) 1 (received12 0 0) .id) e)
 
   pub numbers-from-one : NumbersFromOne g → ⊥
   numbers-from-one h =
-      let t = traceOf 12 0 4117 (received12 0 1 ∷ received12 0 2 ∷ []) in
-      let u = traceOf 12 0 1 (received12 0 1 ∷ received12 0 2 ∷ []) in
-      let n = length (traceText t) + length (traceText u) in
-      let l = length-replicate {A = ℕ} n 0 in
-      let a = puts middle (zeros n) (omega arith) in
-      let b = puts two (zeros n) (omega arith) in
-      let e = sym (a .text) ∙ h 12 0 4117 (recordsOf t) (zeros n) (a .accepted) (b .accepted) ∙ b .text in
-      omega (arith, ap (λ (x : Trace). x .first) (one-house (writable middle) (writable two) e))
+      let e = told-apart middle two (h 12 0 4117 _ (page middle two) (first-put middle two .accepted) (second-put middle two .accepted)) in
+      omega (arith, ap (λ (x : Trace). x .first) e)
 
   module _ {f : Reader} (j : KeepsRead f) where
     pub reads-back : (version start first : ℕ) (records page text out : Lent) → g version start first records page .number ≡ 0

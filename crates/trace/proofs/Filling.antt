@@ -23,7 +23,7 @@ use Rattle.row.proofs.One.{row-one}
 use Rattle.row.proofs.Plain.{row-starts, row-some}
 use Rattle.lines.specs.Lines.{FirstLine, Comment}
 use Rattle.trace.specs.Trace.{Trace, traceOf, Line, Body, over, comment, row, Spells}
-use Rattle.trace.specs.inner.Passes.{There, Bars, Headed, RecordsFit, Filled}
+use Rattle.trace.specs.inner.Passes.{There, Bars, RecordsFit, Filled}
 use Rattle.trace.proofs.Rows.{Rowed}
 use Rattle.trace.specs.inner.Passes
 use Rattle.trace.proofs.Cuts.{spells-cut}
@@ -47,9 +47,10 @@ stepped-more rs {last} {back} {b} r c l s f = step (below-or-not 0 back)
         (λ m. f .none z m ∙ sym (back-none rs r e (rw l at m)))
         (below-or-not (r .offset) last)
 
-pub record Filling (first : ℕ) (text old out : List ℕ) (version start at o rows last back : ℕ) : Type 0 where
+pub record Filling (first : ℕ) (text old out : List ℕ) (version at o rows last back : ℕ) : Type 0 where
   pub within : at ≤ length text
   pub few : rows ≤ at
+  pub start : ℕ
   pub before : List Record
   pub after : List Record
   pub spelled : Spells (traceOf version start first (before ++ after)) text
@@ -61,16 +62,17 @@ pub record Filling (first : ℕ) (text old out : List ℕ) (version start at o r
   pub latest : last ≡ lastOffset before
   pub stepped : back ≡ stepBack before
 
-pub filling : {first : ℕ} {text old : List ℕ} {version start at : ℕ} → Headed text at version start → RecordsFit text old version start first
-    → Filling first text old old version start at 0 0 0 0
+pub filling : {first : ℕ} {text old : List ℕ} {version at : ℕ} → RecordsFit text old at version first → Filling first text old old version at 0 0 0 0
 unfolding packed stepBack
-filling {text = text} {at = at} h f =
+filling {text = text} {at = at} f =
+    let h = f .headed in
     let c = spells-cut (drop at text) (omega arith) (h .lines) (rw (← take-append-drop at text) at (f .spelled)) in
     let z : c .before ≡ [] = ap (λ (t : Trace). t .records) (one-trace (c .first) (h .spelled)) in
     let w : f .records ≡ c .after = c .whole ∙ ap (λ (x : List Record). x ++ c .after) z in
     record {
       within = h .within;
       few = omega arith;
+      start = f .start;
       before = [];
       after = c .after;
       spelled = rw w at (f .spelled);
@@ -122,7 +124,7 @@ behind p b old out o n e k h q =
     let d : drop (o + n) out ≡ drop (o + n) old = rw (q, ← e, drop-append-add, drop-drop) in
     sets-eq b out o (omega arith) ∙ rw (t, k, d)
 
-module _ {first : ℕ} {text old out : List ℕ} {version start at o rows last back : ℕ} (f : Filling first text old out version start at o rows last back) where
+module _ {first : ℕ} {text old out : List ℕ} {version at o rows last back : ℕ} (f : Filling first text old out version at o rows last back) where
   pub out-length : length out ≡ length old
   out-length =
       let p = f .place in
@@ -133,10 +135,11 @@ module _ {first : ℕ} {text old out : List ℕ} {version start at o rows last b
   pub number-fits : first + rows ≤ lastNumber + 1
   number-fits = let n = next-number (f .spelled .numbered) in omega (arith, f .counted, length-append (f .before) (f .after))
 
-  pub stored-note : {next : ℕ} (line : List ℕ) → There text at next line → Comment line → Filling first text old out version start next o rows last back
+  pub stored-note : {next : ℕ} (line : List ℕ) → There text at next line → Comment line → Filling first text old out version next o rows last back
   stored-note line t c = record {
     within = t .within;
     few = let a = f .few in let b = t .later in omega arith;
+    start = f .start;
     before = f .before;
     after = f .after;
     spelled = f .spelled;
@@ -158,7 +161,7 @@ module _ {first : ℕ} {text old out : List ℕ} {version start at o rows last b
 
   pub stored-row : {next k b : ℕ} (r : Record) (line new : List ℕ) → k ≡ first + rows → There text at next line → Row version k r line
       → new ≡ sets out o (bytes 20 (number r)) → BackAfter back (rows + 1) last (r .offset) b
-      → Filling first text old new version start next (o + 20) (rows + 1) (r .offset) b
+      → Filling first text old new version next (o + 20) (rows + 1) (r .offset) b
   stored-row r line new q t w e y =
       let x = head-row (f .rest) (t .is .first) (rw q at w) in
       let i : first + rows + 1 ≡ first + (rows + 1) = omega arith in
@@ -168,6 +171,7 @@ module _ {first : ℕ} {text old out : List ℕ} {version start at o rows last b
       record {
         within = t .within;
         few = let a = f .few in let b = t .later in omega arith;
+        start = f .start;
         before = f .before ++ (r ∷ []);
         after = x .0;
         spelled = rw append-assoc (rw (x .1) at (f .spelled));

@@ -250,16 +250,8 @@ fn judge(text: &[u8], from: usize, version: u64, start: u64, hex: &[u8; 256]) ->
 
 // The second pass: the records of the rows are packed into the output, which has room for them, and the first step back is found. No line is
 // refused any more: what starts with `;` is a comment, and all else a row.
-fn fill(
-    text: &[u8],
-    from: usize,
-    version: u64,
-    start: u64,
-    first: u64,
-    hex: &[u8; 256],
-    out: &mut [u8],
-) -> u64
-    requires { ⌜ Headed (now text) from version start × RecordsFit (now text) (now out) version start first × HexTable (now hex) ⌝ }
+fn fill(text: &[u8], from: usize, version: u64, first: u64, hex: &[u8; 256], out: &mut [u8]) -> u64
+    requires { ⌜ RecordsFit (now text) (now out) from version first × HexTable (now hex) ⌝ }
     ensures { λ b. ⌜ Filled (now (text .entry)) (now (out .entry)) (now (out .exit)) b ⌝ }
 {
     let mut at = from;
@@ -314,7 +306,7 @@ fn body(text: &[u8], at: usize, version: u64, start: u64, out: &mut [u8]) -> Out
                     place: 0,
                 };
             }
-            let back = fill(text, at, version, start, first, &hex, out);
+            let back = fill(text, at, version, first, &hex, out);
             Outcome::Done {
                 version,
                 start,

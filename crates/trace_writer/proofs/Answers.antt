@@ -1,5 +1,5 @@
 -- One answer: the promise of `write` leaves one answer and one output only, and says which traces are written.
-use Prim.Native.Nat.{ℕ, _/_, _≤_, _<_}
+use Prim.Native.Nat.{ℕ, _≤_, _<_}
 use mathlib.Core.Path.{_≡_, refl, ap, sym, _∙_}
 use mathlib.Core.Logic.{_≢_}
 use mathlib.Core.List.{List, _++_}
@@ -10,7 +10,7 @@ use Rattle.clock.specs.Start.{startLimit}
 use Rattle.record.specs.declared.Record.{Record}
 use Rattle.records.specs.Records.{packed, Whole, PacksAll, FirstMalformed}
 use Rattle.records.proofs.Lists.{each-at, first-one}
-use Rattle.records.proofs.Packing.{packed-length}
+use Rattle.records.proofs.Packing.{packed-length, packed-count}
 use Rattle.records.proofs.Records.{packs-all-one, malformed-one, none-malformed}
 use Rattle.row.specs.Versions.{Version}
 use Rattle.trace.specs.House.{traceText, Writable}
@@ -87,9 +87,7 @@ module _ {version start first : ℕ} {rs : List Record} {s : List ℕ} (w : Writ
 
   -- as many rows as records
   fits : NumberFits first s
-  fits =
-      let n : length s / 20 ≡ length rs = omega (arith, ap length e ∙ packed-length rs) in
-      rw n (w .numbered)
+  fits = rw (packed-count rs e) (w .numbered)
 
   -- What can be written is none of them.
   not-stopped : {n p : ℕ} → WriteStopped version start first s n p → ⊥

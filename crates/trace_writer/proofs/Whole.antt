@@ -1,5 +1,5 @@
 -- The whole text: its two parts, its length, and that it is what was put.
-use Prim.Native.Nat.{ℕ, _+_, _/_, _≤_}
+use Prim.Native.Nat.{ℕ, _+_, _≤_}
 use mathlib.Core.Path.{_≡_, ap, _∙_}
 use mathlib.Core.List.{List, _++_, append-assoc}
 use native.Mathlib.Omega.{arith}
@@ -9,7 +9,7 @@ use Rattle.base.proofs.Lists.{then, at-start}
 use Rattle.clock.specs.Start.{startLimit}
 use Rattle.record.specs.declared.Record.{Record}
 use Rattle.records.specs.Records.{Whole, PacksAll}
-use Rattle.records.proofs.Packing.{packed-length}
+use Rattle.records.proofs.Packing.{packed-count}
 use Rattle.row.specs.Versions.{Version}
 use Rattle.trace.specs.Trace.{traceOf}
 use Rattle.trace.specs.House.{versionLineText, startLineText, rowsText, traceText, Carried, Writable}
@@ -29,10 +29,10 @@ module _ (version start first : ℕ) (rs : List Record) where
 -- What was judged can be written.
 pub writable : {version start first : ℕ} {s : List ℕ} {rs : List Record} → Version version → start ≤ startLimit → NumberFits first s → PacksAll rs s → Carried version rs
     → Writable (traceOf version start first rs)
-writable {s = s} {rs = rs} v l n h c = record {
+writable {rs = rs} v l n h c = record {
   version = v;
   start = l;
-  numbered = let e : length s / 20 ≡ length rs = omega (arith, ap length (h .bytes), packed-length rs) in rw e at n;
+  numbered = rw (packed-count rs (h .bytes)) at n;
   formed = h .formed;
   carried = c;
 }

@@ -18,7 +18,7 @@ body-spec =
     (λ c. let g = rw (c .before .before .j .given .1) at (c .before .before .before .before .judge .ensures) in
     no-room (c .before .before .before .before .before .before .before .before .before .pre .1) (g .1) (omega (arith, g .2, c .if1 .taken)) refl refl)
     (λ c κs. let g = rw (c .before .before .before .before .j .given .1) at (c .before .before .before .before .before .before .judge .ensures) in
-    (c .before .before .before .before .before .before .before .before .before .before .before .pre .0, record { records = g .0; spelled = g .1; room = omega (arith, g .2, c .before .before .if1 .left) }, c .before .before .before .before .before .before .before .before .hex-table .ensures))
+    (record { start = _; headed = c .before .before .before .before .before .before .before .before .before .before .before .pre .0; records = g .0; spelled = g .1; room = omega (arith, g .2, c .before .before .if1 .left) }, c .before .before .before .before .before .before .before .before .hex-table .ensures))
     (λ c. search needs)
     (λ c. search needs)
     (λ c. let a = c .before .before .before .before .before .before .before .before .before .before .before .before .before .before .args in

@@ -10,19 +10,19 @@ use Rattle.trace.proofs.fill.Statement.{statement}
 use Rattle.trace.proofs.fill.Tie as tie
 
 abbrev Inv-loop : tie.InvT-loop
-Inv-loop text from version start first hex out₀ at₀ done₀ o₀ last₀ back₀ w₀ base₀ fields₀ out at done o last back w base fields =
-    Filling first text out₀ out version start at o done last back × Windowed text base w × (base ≤ at)
+Inv-loop text from version first hex out₀ at₀ done₀ o₀ last₀ back₀ w₀ base₀ fields₀ out at done o last back w base fields =
+    Filling first text out₀ out version at o done last back × Windowed text base w × (base ≤ at)
 
 abbrev μ-loop : tie.MeasureT-loop
-μ-loop text from version start first hex out₀ at₀ done₀ o₀ last₀ back₀ w₀ base₀ fields₀ out at done o last back w base fields = length text - at
+μ-loop text from version first hex out₀ at₀ done₀ o₀ last₀ back₀ w₀ base₀ fields₀ out at done o last back w base fields = length text - at
 
 pub fill-spec : {M : Type 1} → statement M
 fill-spec =
     tie.close
     (tie.spec Inv-loop μ-loop
     (λ c κs. search needs)
-    (λ c κs. c .before .before .before .before .pre .0 .within)
-    (λ c. (filling (c .before .before .before .before .before .pre .0) (c .before .before .before .before .before .pre .1), c .fill-window .ensures, omega arith))
+    (λ c κs. c .before .before .before .before .pre .0 .headed .within)
+    (λ c. (filling (c .before .before .before .before .before .pre .0), c .fill-window .ensures, omega arith))
     (λ c. c .before .loop-test .taken)
     (λ c κs. omega (arith, c .before .before .loop-test .taken))
     (λ c. search needs)
@@ -37,7 +37,7 @@ fill-spec =
     (λ c. absurd (never-bad (c .before .before .before .before .before .before .loop .inv .0) (c .before .before .before .before .before .loop-test .taken) (c .before .before .before .if1 .taken) (rw (c .enum-told .given .1) at (c .before .before .other-at .ensures))))
     (λ c κs. (c .before .before .before .before .loop .inv .1, c .before .before .before .before .loop .inv .2, omega (arith, c .before .before .before .loop-test .taken)))
     (λ c. omega (arith, number-fits (c .before .before .before .before .before .loop .inv .0)))
-    (λ c κs. (c .before .before .window-at .ensures, omega (arith, c .before .before .before .before .before .before .loop-test .taken), c .before .before .before .before .before .before .before .before .before .before .before .before .before .pre .2))
+    (λ c κs. (c .before .before .window-at .ensures, omega (arith, c .before .before .before .before .before .before .loop-test .taken), c .before .before .before .before .before .before .before .before .before .before .before .before .before .pre .1))
     (λ c. out-length (c .before .before .before .before .before .before .before .before .before .loop .inv .0))
     (λ c. let x = row-next (c .before .before .before .before .before .before .before .before .before .loop .inv .0) (omega arith) (c .before .before .before .before .before .before .before .before .loop-test .taken) (c .before .before .before .before .before .before .if1 .left) in absurd (not-found (c .before .row-at .ensures) (c .if2 .taken) (x .r) (x .line) (x .after) (x .is) (x .row)))
     (λ c. let f = c .before .before .before .before .before .before .before .before .before .loop .inv .0 .few in omega (arith, c .before .before .before .before .before .before .before .before .loop-test .taken))

@@ -89,8 +89,10 @@ Judges text version start (judged.Good rows first) =
     (rs : List Record) × Spells (traceOf version start first rs) text × (rows ≡ length rs)
 Judges text version start (judged.Bad n p) = RefusedAtLine text n p
 
--- Some trace is spelled, and the output has room for its records.
-pub record RecordsFit (text out : List ℕ) (version start first : ℕ) : Type 0 where
+-- Some trace is spelled, its head lines end at `at`, and the output has room for its records.
+pub record RecordsFit (text out : List ℕ) (at version first : ℕ) : Type 0 where
+  pub start : ℕ
+  pub headed : Headed text at version start
   pub records : List Record
   pub spelled : Spells (traceOf version start first records) text
   pub room : 20 * length records ≤ length out
