@@ -124,6 +124,11 @@ month-small zero m r h = leb→le _ _ (at (λ (k x : ℕ). leb x 31) 0 (months 0
 month-small (suc zero) m r h = leb→le _ _ (at (λ (k x : ℕ). leb x 31) 0 (months 1) tt m h)
 month-small (suc (suc row)) m r h = absurd (omega arith)
 
+-- December has 31 days in both kinds of year.
+pub december : (row : ℕ) → monthDays row 11 ≡ 31
+unfolding monthDays
+december row = refl
+
 -- The days before January, before December and before the next January.
 pub no-month : (row : ℕ) → before row 0 ≡ 0
 unfolding before

@@ -5,7 +5,7 @@ use mathlib.Core.Logic.{_⊎_, ⊎-elim}
 use native.Mathlib.Numerals.{add-one}
 use native.Mathlib.Omega.{arith}
 use Rattle.clock.specs.declared.CalendarDay.{CalendarDay}
-use Rattle.clock.specs.Date.{leap, monthDays, before, beforeYear, InCalendar, Date}
+use Rattle.clock.specs.Date.{leap, monthDays, before, beforeYear, InCalendar, Date, lastDay}
 use Rattle.clock.proofs.Places.{rises, one-place, some-place}
 use Rattle.clock.proofs.Calendar.{leap-small, month-small, years, one-year, next-month}
 use Rattle.clock.proofs.Calendar.{no-month, last-month, whole-year}
@@ -20,7 +20,7 @@ module _ (row : ℕ) where
   within-month : (m z : ℕ) → z < monthDays row m → before row m + z < before row (suc m)
   within-month m z h = rw (← add-one m) (omega (arith, next-month row m))
 
-  within-year : (m z : ℕ) → m < 12 → z < monthDays row m → before row m + z < 365 + row
+  pub within-year : (m z : ℕ) → m < 12 → z < monthDays row m → before row m + z < 365 + row
   within-year m z l h =
       omega (arith, within-month m z h, rises (before row) months-grow (suc m) 12 (omega arith), whole-year row)
 
@@ -67,6 +67,10 @@ small-day {days} {d} p =
 
 pub small-year : {days : ℕ} {d : CalendarDay} → days ≤ 130000 → Date days d → d .year < 10000
 small-year {days} {d} h p = omega (arith, years (d .year - 1899))
+
+-- Up to the last day the year is 2173 at most.
+pub last-year : {days : ℕ} {d : CalendarDay} → days ≤ lastDay → Date days d → d .year ≤ 2173
+last-year {days} {d} h p = omega (arith, years (d .year - 1899))
 
 -- A year y, a day x of it, and the month m and day z that x is, counted from 0, are a date.
 pub made : (days y x row m z : ℕ) → 1899 ≤ y → days + 363 ≡ beforeYear (y - 1899) + x → row ≡ leap y

@@ -46,3 +46,7 @@ pub record InCalendar (d : CalendarDay) : Type 0 where
 pub record Date (days : ℕ) (d : CalendarDay) : Type 0 where
   pub calendar : InCalendar d
   pub count : days + 363 ≡ beforeYear (d .year - 1899) + before (leap (d .year)) (d .month - 1) + (d .day - 1)
+
+-- The last day that the stamp of a line may lie on where it is read: its last millisecond is `startLimit`.
+abbrev pub lastDay : ℕ
+lastDay = 99999

@@ -1,3 +1,4 @@
 pub mod Start
 pub mod Date
 pub mod Stamp
+pub mod inner

@@ -4,12 +4,19 @@ ghost use Prim.Native.Nat.{_+_, _*_, _-_, _^_, _≤_, _<_};
 ghost use Rattle.clock.specs.Start.{dayMs, startLimit, Start, DayFraction};
 ghost use Rattle.clock.specs.Date.{leap, monthDays, before, beforeYear, Date};
 ghost use Rattle.clock.specs.Stamp.{Time, Stamp};
+ghost use Rattle.clock.specs.inner.Days.{DayOr};
 
 // The last start that a trace may have, in milliseconds.
 pub const START_LIMIT: u64 = 8_639_999_999_999;
 
 // The milliseconds of a day.
 pub const DAY_MS: u64 = 86_400_000;
+
+// The last day that the stamp of a line may lie on where it is read: 13.10.2173.
+pub const LAST_DAY: u64 = 99_999;
+
+// What `day_of` gives for no day.
+pub const NO_DAY: u64 = 100_000;
 
 // A day of the Gregorian calendar: day and month count from 1.
 pub struct CalendarDay {
@@ -175,6 +182,62 @@ pub fn date_of(days: u64) -> CalendarDay
         month: m.month + 1,
         year: y.year,
     }
+}
+
+// The days of a month, which counts from 0: those before the next month less those before it. None follows December.
+fn month_days(leap: u64, month: u64) -> u64
+    requires { ⌜ (leap < 2) × (month < 12) ⌝ }
+    ensures { λ r. ⌜ r ≡ monthDays leap month ⌝ }
+{
+    if month == 11 {
+        return 31;
+    }
+    days_before(leap, month + 1) - days_before(leap, month)
+}
+
+// What `day_of` gives in a month of the years from 1899 to 2173. The count is from the beginning of 1899, of which 363
+// days lie before day 0.
+fn day_within(d: CalendarDay) -> u64
+    requires { ⌜ (1899 ≤ d .year) × (d .year ≤ 2173) × (1 ≤ d .month) × (d .month ≤ 12) ⌝ }
+    ensures { λ n. ⌜ DayOr d n ⌝ }
+{
+    let leap = leap_of(d.year);
+    let month = d.month - 1;
+    if d.day < 1 {
+        return NO_DAY;
+    }
+    if d.day > month_days(leap, month) {
+        return NO_DAY;
+    }
+    let count = days_before_year(d.year) + days_before(leap, month) + (d.day - 1);
+    if count < 363 {
+        return NO_DAY;
+    }
+    let days = count - 363;
+    if days > LAST_DAY {
+        return NO_DAY;
+    }
+    days
+}
+
+// The day that a date is, counted from 30.12.1899, up to day 99,999; or NO_DAY: there is no such date, or it lies before
+// or behind. Day, month and year are any numbers, so that the ranges are tested before anything is counted.
+pub fn day_of(d: CalendarDay) -> u64
+    ensures { λ n. ⌜ DayOr d n ⌝ }
+{
+    if d.year < 1899 {
+        return NO_DAY;
+    }
+    if d.year > 2173 {
+        return NO_DAY;
+    }
+    if d.month < 1 {
+        return NO_DAY;
+    }
+    if d.month > 12 {
+        return NO_DAY;
+    }
+    day_within(d)
 }
 
 // The time that a start and an offset give, cut down to 100 microseconds.
