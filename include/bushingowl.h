@@ -1,5 +1,5 @@
-/* Bushingowl: CAN traces (PEAK TRC 1.1 and 1.2) to packed records and back, and packed records to Telemotive ASCII;
- * and what is wrong with a line that is no row.
+/* Bushingowl: CAN traces (PEAK TRC 1.1 and 1.2) to packed records and back, and packed records to Telemotive ASCII and
+ * back; and what is wrong with a line that is no row.
  *
  * WHAT A CALL DOES
  *
@@ -25,7 +25,7 @@
  *
  * A start counts milliseconds from 30 December 1899, 0:00, in the local time of the logger (1 January 1970 is day
  * 25,569). An offset counts microseconds from the start. The stamp of a record is start plus offset. Offsets of a trace
- * may go back from row to row.
+ * may go back from row to row. Day 99,999, the last of a start, is 13 October 2173.
  *
  * ROW NUMBERS
  *
@@ -56,7 +56,7 @@
  * REFUSALS
  *
  *   no.  place   given exactly when                                                     by
- *    1   0       the text has more than 134,217,728 bytes                               bo_read
+ *    1   0       the text has more than 134,217,728 bytes                               bo_read, bo_read_ascii
  *    2   line    a line is not ended by CR LF                                           bo_read
  *    3   line    an ended line has more than 250 bytes before its CR LF                 bo_read
  *    4   1       line 1 is absent or no version line (;$FILEVERSION=1.1 or 1.2)         bo_read
@@ -64,7 +64,7 @@
  *                a start above 8,639,999,999,999
  *    6   line    from line 3 on, a comment whose first byte behind ; and blanks is $    bo_read
  *    7   line    from line 3 on, any other line that is no comment and no row           bo_read
- *    8   0       the trace is good, and the output too short for its records            bo_read
+ *    8   0       the text is good, and the output too short for its records             bo_read, bo_read_ascii
  *   20   0       the bytes of the records are no multiple of 20 or above 19,999,980     bo_write, bo_export
  *                the bytes of the one record are not 20                                 bo_unpack
  *   21   0       the version is neither 11 nor 12                                       bo_write, bo_explain
@@ -79,11 +79,18 @@
  *   30   0       the expected number is above 999,999, or the line holds CR or LF, or   bo_explain
  *                it is a row of this version and number (of any number, if 0 is
  *                expected), or a comment
+ *   31   line    a line is no line of Telemotive ASCII, or has more than 250 bytes      bo_read_ascii
+ *                before its end, or is not ended by CR LF or LF
+ *   32   line    its stamp lies before the start                                        bo_read_ascii
+ *   33   line    its stamp lies more than 99,999,999,999,999 microseconds behind the    bo_read_ascii
+ *                start
+ *   34   0       all lines are good, and there are more than 999,999                    bo_read_ascii
  *
  * Of several, bo_read gives 1 first, then that of the earliest line (on one line 2, then 3, then the rest), and 8 last.
- * The others give the one that stands first in this table, in which 26 comes before 23; bo_write tests all records for
- * 23 before any for 24.
- * docs/FORMAT.md says what a row, a comment and the first two lines are.
+ * bo_read_ascii gives 1 first, then that of the earliest line (on one line 31, then 32 or 33), then 34, and 8 last: a
+ * wrong line comes before 34, even behind 999,999 good ones. The others give the one that stands first in this table,
+ * in which 26 comes before 23; bo_write tests all records for 23 before any for 24.
+ * docs/FORMAT.md says what a row, a comment and the first two lines are, and what a line of Telemotive ASCII is.
  */
 #ifndef BUSHINGOWL_H
 #define BUSHINGOWL_H
@@ -96,8 +103,8 @@ extern "C" {
 #endif
 
 /* The state of this interface: one more whenever a function is added, or its parameters or answer change. 2 added
- * bo_explain; 3 gave bo_read and bo_write the first number. */
-#define BUSHINGOWL_API 3
+ * bo_explain; 3 gave bo_read and bo_write the first number; 4 added bo_read_ascii. */
+#define BUSHINGOWL_API 4
 
 /* The kinds of a record. Only data frames give a line of an export. */
 #define BUSHINGOWL_DATA_RECEIVED 0
@@ -114,11 +121,11 @@ extern "C" {
 /* The bytes of a packed record. */
 #define BUSHINGOWL_RECORD 20
 
-/* The most bytes of a text that bo_read takes. */
+/* The most bytes of a text that bo_read and bo_read_ascii take. */
 #define BUSHINGOWL_MOST_TEXT 134217728
 
 /* The largest number of a row, and so the most rows of a text and the most records of a list. A text whose first row
- * has the number n has at most BUSHINGOWL_MOST_ROWS - n + 1 rows. */
+ * has the number n has at most BUSHINGOWL_MOST_ROWS - n + 1 rows. bo_read_ascii takes as many lines at most. */
 #define BUSHINGOWL_MOST_ROWS 999999
 
 /* The fewest bytes of a row with its CR LF, which are those of `1) 0.0 Rx 0000 0`. So a text of n bytes has at most
@@ -136,6 +143,10 @@ extern "C" {
 /* The most bytes that bo_export gives for a record, with CR LF:
  * `29.02.2000 12:00:00.0000 CANExt #16 | EXTENDED Rx 1fffffff 8 00 11 22 33 44 55 66 77`. */
 #define BUSHINGOWL_MOST_LINE 86
+
+/* The fewest bytes of a line that bo_read_ascii takes, with its LF, which are those of
+ * `29.02.2000 12:00:00.0000 CAN #1 | Rx 123 0`. So a text of n bytes has at most n / BUSHINGOWL_LEAST_LINE of them. */
+#define BUSHINGOWL_LEAST_LINE 43
 
 /* The last start, the last millisecond of day 99,999: 8,639,999,999,999. */
 #define BUSHINGOWL_MOST_START ((uint64_t)99999 * 86400000 + 86399999)
@@ -169,6 +180,30 @@ void bo_write(uint32_t version, uint64_t start, uint64_t first, const uint8_t *r
  * answer: number, place (a record), bytes written, lines, records left out.
  * Refusals: 20, 22, 23, 25. */
 void bo_export(uint64_t start, const uint8_t *records, size_t records_len, uint8_t *out, size_t out_len, uint64_t answer[5]);
+
+/* Reads lines of Telemotive ASCII, as bo_export gives them and as they come back edited, into a start and packed
+ * records. bo_export of these gives the lines back in its own spelling: with the same stamps, directions, IDs, channels
+ * and bytes, one blank between two parts, small letters and CR LF.
+ * text: lines, each ended by CR LF or by LF, with at most 250 bytes before that and no other CR. A line has the parts
+ *   that bo_export writes, as `29.02.2000 12:00:00.0000 CAN #1 | Rx 123 2 0a ff` and
+ *   `29.02.2000 12:00:01.5002 CANExt #2 | EXTENDED Tx 18ab0001 0` have, with one blank (byte 32 only) or more between
+ *   two and none at the ends of the line. Hexadecimal letters may be capital or small; all else is spelled as there.
+ *   The date exists and lies from 30.12.1899 to 13.10.2173, which is day 99,999; the time lies from 00:00:00.0000 to
+ *   23:59:59.9999; the channel is 1 to 16 without a leading zero; behind the length, 0 to 8, stand just as many bytes.
+ *   An empty line is no such line. An empty text is good, and gives start 0 and no records.
+ * out: BUSHINGOWL_RECORD bytes for each line; text_len / BUSHINGOWL_LEAST_LINE * BUSHINGOWL_RECORD bytes are enough for
+ *   any text, and so are BUSHINGOWL_MOST_ROWS * BUSHINGOWL_RECORD. With a refusal all of it holds what it held before.
+ * answer: number, place (a line), start, records.
+ *   The start is the stamp of line 1, cut to the millisecond, and the offset of a record is its line's stamp less the
+ *   start, in microseconds; so that of the first record is 0 to 900. Stamps may go back from line to line, and records
+ *   stay in the order of the lines, as long as no stamp lies before the start. One that lies before line 1 by at most
+ *   0.9 milliseconds may still lie at the start or behind it.
+ *   The kind of a record is 0 for Rx and 1 for Tx, and its bus is the channel. bo_export writes bus 0 as channel 1, so
+ *   that it comes back as bus 1. What an export leaves out or cuts off does not come back: records of other kinds,
+ *   microseconds below 100, the start of the trace. Version 12 carries all records that come back.
+ * Refusals: 1, 31 to 34 and 8, in this order. Of what bo_export gives only these are refused: a stamp past day 99,999
+ *   (31), and one before the start, where the records step back to before the first line (32). */
+void bo_read_ascii(const uint8_t *text, size_t text_len, uint8_t *out, size_t out_len, uint64_t answer[4]);
 
 /* Takes one packed record of BUSHINGOWL_RECORD bytes apart.
  * answer: number, place, offset, bus, kind, extended, ID, length, data (the first byte the most significant).
