@@ -35,6 +35,13 @@ mod c {
             out_len: usize,
             answer: *mut u64,
         );
+        pub fn bo_read_ascii(
+            text: *const u8,
+            text_len: usize,
+            out: *mut u8,
+            out_len: usize,
+            answer: *mut u64,
+        );
         pub fn bo_explain(
             line: *const u8,
             line_len: usize,
@@ -110,6 +117,21 @@ pub fn export(start: u64, records: &[u8], out: &mut [u8]) -> [u64; 5] {
             start,
             records.as_ptr(),
             records.len(),
+            out.as_mut_ptr(),
+            out.len(),
+            answer.as_mut_ptr(),
+        )
+    }
+    answer
+}
+
+pub fn read_ascii(text: &[u8], out: &mut [u8]) -> [u64; 4] {
+    let mut answer = [UNSET; 4];
+    // SAFETY: see above; the answer has room for the four numbers of the header.
+    unsafe {
+        c::bo_read_ascii(
+            text.as_ptr(),
+            text.len(),
             out.as_mut_ptr(),
             out.len(),
             answer.as_mut_ptr(),

@@ -1,13 +1,13 @@
-//! CAN traces (PEAK TRC 1.1 and 1.2) to packed records and back, and packed records to Telemotive ASCII.
+//! CAN traces (PEAK TRC 1.1 and 1.2) to packed records and back, and packed records to Telemotive ASCII and back.
 //!
 //! Safe functions over the proved library. Every function takes any bytes and any numbers, and none panics. What can't be
 //! used gets a [`Refused`]: a number in words, with its line or record.
 //!
-//! [`read_to_vec`], [`write_to_vec`] and [`export_to_vec`] allocate what they hand out. [`read`], [`write()`] and [`export`]
-//! take the output from the caller, and allocate nothing: if accepted, it begins with the bytes written and behind them
-//! holds what it held before; if refused, all of it does. [`unpack`] and [`pack`] are for single records.
-//! [`explain_refusal`] tells which field of a refused row is wrong, and [`explain()`] does so for a single line.
-//! [`numbers`] has the same functions with the plain numbers of the C boundary.
+//! [`read_to_vec`], [`write_to_vec`], [`export_to_vec`] and [`read_ascii_to_vec`] allocate what they hand out. [`read`],
+//! [`write()`], [`export`] and [`read_ascii`] take the output from the caller, and allocate nothing: if accepted, it
+//! begins with the bytes written and behind them holds what it held before; if refused, all of it does. [`unpack`] and
+//! [`pack`] are for single records. [`explain_refusal`] tells which field of a refused row is wrong, and [`explain()`]
+//! does so for a single line. [`numbers`] has the same functions with the plain numbers of the C boundary.
 //!
 //! A start counts milliseconds from 30 December 1899, 0:00, in the local time of the logger (1 January 1970 is day
 //! 25,569), and is at most [`MOST_START`]. An offset counts microseconds from the start, and is at most [`MOST_OFFSET`].
@@ -46,9 +46,10 @@ use refused::accepted;
 
 /// The bytes of a packed record.
 pub const RECORD: usize = 20;
-/// The most bytes of a text that [`read`] takes.
+/// The most bytes of a text that [`read`] and [`read_ascii`] take.
 pub const MOST_TEXT: usize = 134_217_728;
-/// The largest number of a row, and so the most rows of a text and the most records of a list.
+/// The largest number of a row, and so the most rows of a text and the most records of a list; the most lines that
+/// [`read_ascii`] takes, too.
 pub const MOST_ROWS: usize = 999_999;
 /// The fewest bytes of a row with its CR LF, which are those of `1) 0.0 Rx 0000 0`. So a text has at most
 /// `text.len() / LEAST_ROW` rows.
@@ -62,7 +63,10 @@ pub const MOST_ROW: usize = 66;
 /// The most bytes that [`export`] gives for a record, with CR LF:
 /// `29.02.2000 12:00:00.0000 CANExt #16 | EXTENDED Rx 1fffffff 8 00 11 22 33 44 55 66 77`.
 pub const MOST_LINE: usize = 86;
-/// The last start, the last millisecond of day 99,999.
+/// The fewest bytes of a line that [`read_ascii`] takes, with its LF, which are those of
+/// `29.02.2000 12:00:00.0000 CAN #1 | Rx 123 0`. So a text has at most `text.len() / LEAST_LINE` of them.
+pub const LEAST_LINE: usize = 43;
+/// The last start, the last millisecond of day 99,999, which is 13 October 2173.
 pub const MOST_START: u64 = 8_639_999_999_999;
 /// The largest offset, eleven digits of milliseconds and three behind the point.
 pub const MOST_OFFSET: u64 = 99_999_999_999_999;
@@ -127,6 +131,16 @@ pub struct Exported {
     pub lines: usize,
     /// The records that give no line.
     pub left_out: usize,
+}
+
+/// What lines of Telemotive ASCII hold beside their records.
+#[derive(Clone, Copy, Debug, PartialEq, Eq, Hash)]
+pub struct ReadAscii {
+    /// The stamp of the first line, cut to the millisecond, in milliseconds from 30 December 1899; 0 where there are no
+    /// lines.
+    pub start: u64,
+    /// As many as there are lines.
+    pub records: usize,
 }
 
 /// Reads a trace text into packed records, [`RECORD`] bytes for each row.
@@ -261,6 +275,65 @@ pub fn export_to_vec(start: u64, records: &[u8]) -> Result<(Exported, Vec<u8>), 
     let exported = export(start, records, &mut lines)?;
     lines.truncate(exported.bytes);
     Ok((exported, lines))
+}
+
+/// Reads lines of Telemotive ASCII, as [`export`] gives them and as they come back edited, into packed records,
+/// [`RECORD`] bytes for each line. `text.len() / LEAST_LINE * RECORD` bytes are enough for any text, and so are
+/// `MOST_ROWS * RECORD`.
+///
+/// Between two parts of a line stands one blank or more, hexadecimal letters may be capital or small, and a line may end
+/// with CR LF or LF. [`export`] with the start that is handed out gives the lines back in its own spelling, with the same
+/// stamps, directions, IDs, channels and bytes.
+///
+/// The start is the stamp of the first line, cut to the millisecond, and offsets count from it. Stamps may go back from
+/// line to line, but not to before the start. The bus is the channel, so that bus 0, which is exported as channel 1,
+/// comes back as bus 1. What an export leaves out or cuts off does not come back.
+///
+/// Refused with the numbers 1, 31 to 34 and 8: 1 first, then that of the earliest line (31 to 33), then 34, 8 last.
+///
+/// ```
+/// use bushingowl::{export_to_vec, read_ascii, RECORD};
+/// let edited = b"29.02.2000  12:00:00.0009 CAN #1 |  Rx 7FF 2 0A ff\n29.02.2000 12:00:01.5002 CAN #2 | Tx 124 0\r\n";
+/// let mut records = [0; 2 * RECORD];
+/// let back = read_ascii(edited, &mut records)?;
+/// assert_eq!((back.start, back.records), (3_160_987_200_000, 2));
+/// let (_, lines) = export_to_vec(back.start, &records)?;
+/// assert_eq!(lines, b"29.02.2000 12:00:00.0009 CAN #1 | Rx 7ff 2 0a ff\r\n29.02.2000 12:00:01.5002 CAN #2 | Tx 124 0\r\n");
+/// # Ok::<(), bushingowl::Refused>(())
+/// ```
+pub fn read_ascii(text: &[u8], out: &mut [u8]) -> Result<ReadAscii, Refused> {
+    let [number, place, start, records] = numbers::read_ascii(text, out);
+    accepted(number, place)?;
+    Ok(ReadAscii {
+        start,
+        records: records as usize,
+    })
+}
+
+/// Reads lines of Telemotive ASCII, and hands out their packed records.
+///
+/// Refused as [`read_ascii`] is, but never for room.
+///
+/// ```
+/// use bushingowl::{read_ascii_to_vec, unpack, write_to_vec};
+/// let (back, records) = read_ascii_to_vec(b"29.02.2000 12:00:01.5002 CANExt #2 | EXTENDED Tx 18AB0001 0\n")?;
+/// assert_eq!((back.start, back.records), (3_160_987_201_500, 1));
+/// let frame = unpack(&records)?;
+/// assert_eq!((frame.offset, frame.bus, frame.extended, frame.id), (200, 2, true, 0x18AB_0001));
+/// // Version 1.2 carries all that comes back.
+/// let trace = write_to_vec(12, back.start, 1, &records)?;
+/// assert!(trace.ends_with(b"\r\n1) 0.200 2 Tx 18AB0001 0\r\n"));
+/// // 30 February.
+/// let refused = read_ascii_to_vec(b"30.02.2000 12:00:00.0000 CAN #1 | Rx 123 0\n").unwrap_err();
+/// assert_eq!((refused.number(), refused.place), (31, 1));
+/// # Ok::<(), bushingowl::Refused>(())
+/// ```
+pub fn read_ascii_to_vec(text: &[u8]) -> Result<(ReadAscii, Vec<u8>), Refused> {
+    let lines = (text.len() / LEAST_LINE).min(MOST_ROWS);
+    let mut records = vec![0; lines * RECORD];
+    let back = read_ascii(text, &mut records)?;
+    records.truncate(back.records * RECORD);
+    Ok((back, records))
 }
 
 /// Takes one packed record of [`RECORD`] bytes apart.

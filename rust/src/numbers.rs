@@ -29,6 +29,11 @@ pub fn export(start: u64, records: &[u8], out: &mut [u8]) -> [u64; 5] {
     boundary::export(start, records, out)
 }
 
+/// Number, place, start, records.
+pub fn read_ascii(text: &[u8], out: &mut [u8]) -> [u64; 4] {
+    boundary::read_ascii(text, out)
+}
+
 /// Number, place, reason, field. The row number that is given is the expected one, or 0 for a first row of any number.
 pub fn explain(line: &[u8], version: u32, number: u64) -> [u64; 4] {
     boundary::explain(line, version, number)

@@ -22,7 +22,7 @@ pub enum Reason {
     DollarComment = 6,
     /// From line 3 on, any other line that is no comment and no row.
     NoRow = 7,
-    /// The trace is good, and the output too short for its records.
+    /// The text is good, and the output too short for its records.
     NoRoomForRecords = 8,
     /// The bytes are no multiple of 20 or more than [`MOST_ROWS`](crate::MOST_ROWS) records; for one record, not 20.
     NoRecords = 20,
@@ -43,11 +43,19 @@ pub enum Reason {
     /// The expected number is above [`MOST_ROWS`](crate::MOST_ROWS), or the line holds CR or LF, or it is a row of this
     /// version and number (of any number, if 0 is expected), or a comment.
     Unexplained = 30,
+    /// A line is no line of Telemotive ASCII, or has more than 250 bytes before its end, or is not ended by CR LF or LF.
+    NoAsciiLine = 31,
+    /// The stamp of a line lies before the start, which is the stamp of line 1 cut to the millisecond.
+    BeforeStart = 32,
+    /// The stamp of a line lies more than [`MOST_OFFSET`](crate::MOST_OFFSET) microseconds behind the start.
+    OffsetTooLarge = 33,
+    /// All lines are good, and there are more than [`MOST_ROWS`](crate::MOST_ROWS).
+    TooManyLines = 34,
 }
 
 impl Reason {
     /// The reasons in the order of their numbers.
-    pub const ALL: [Reason; 16] = [
+    pub const ALL: [Reason; 20] = [
         Reason::TextTooLong,
         Reason::LineNotEnded,
         Reason::LineTooLong,
@@ -64,6 +72,10 @@ impl Reason {
         Reason::NoRoom,
         Reason::WrongFirstNumber,
         Reason::Unexplained,
+        Reason::NoAsciiLine,
+        Reason::BeforeStart,
+        Reason::OffsetTooLarge,
+        Reason::TooManyLines,
     ];
 
     /// The refusal number.
@@ -123,6 +135,10 @@ impl fmt::Display for Refused {
             Reason::NoRoom => write!(f, "the output is too short"),
             Reason::WrongFirstNumber => write!(f, "the first number is 0 with records or not 0 without, or the last row's would be above 999,999"),
             Reason::Unexplained => write!(f, "the line is a row or a comment or holds CR or LF, or its number is above 999,999"),
+            Reason::NoAsciiLine => write!(f, "line {place} is no line of Telemotive ASCII, or has more than 250 bytes, or is not ended"),
+            Reason::BeforeStart => write!(f, "the stamp of line {place} lies before the start, that of line 1 cut to the millisecond"),
+            Reason::OffsetTooLarge => write!(f, "the stamp of line {place} lies more than 99,999,999,999,999 microseconds behind the start"),
+            Reason::TooManyLines => write!(f, "there are more than 999,999 lines"),
         }?;
         write!(f, " (refusal {})", self.number())
     }

@@ -1,8 +1,8 @@
 //! The constants of `include/bushingowl.h` are those of this crate, and so are the lengths of its answers.
 
 use bushingowl::{
-    numbers, Kind, RowReason, LEAST_ROW, MOST_HEADER, MOST_LINE, MOST_OFFSET, MOST_ROW, MOST_ROWS,
-    MOST_START, MOST_TEXT, RECORD,
+    numbers, Kind, RowReason, LEAST_LINE, LEAST_ROW, MOST_HEADER, MOST_LINE, MOST_OFFSET, MOST_ROW,
+    MOST_ROWS, MOST_START, MOST_TEXT, RECORD,
 };
 
 const HEADER: &str = include_str!("../../include/bushingowl.h");
@@ -26,6 +26,7 @@ fn sizes_are_the_same() {
         ("MOST_HEADER", MOST_HEADER),
         ("MOST_ROW", MOST_ROW),
         ("MOST_LINE", MOST_LINE),
+        ("LEAST_LINE", LEAST_LINE),
     ];
     for (name, size) in sizes {
         assert_eq!(defined(name), size.to_string(), "{name}");
@@ -79,6 +80,7 @@ fn answers_have_as_many_numbers() {
         ("read", numbers::read(b"", &mut []).len()),
         ("write", numbers::write(0, 0, 0, b"", &mut []).len()),
         ("export", numbers::export(0, b"", &mut []).len()),
+        ("read_ascii", numbers::read_ascii(b"", &mut []).len()),
         ("unpack", numbers::unpack(b"").len()),
         ("pack", numbers::pack(&[0; 7], &mut []).len()),
         ("explain", numbers::explain(b"", 0, 0).len()),

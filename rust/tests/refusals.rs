@@ -195,6 +195,12 @@ fn with_zeros_for_all_other_numbers() {
     assert_eq!(numbers::unpack(&[]), [20, 0, 0, 0, 0, 0, 0, 0, 0]);
     assert_eq!(numbers::pack(&[u64::MAX; 7], &mut [0; 20]), [23, 1]);
     assert_eq!(numbers::pack(&[0; 7], &mut []), [25, 0]);
+    // A line before the one that is wrong, and a good line without room.
+    let line = "29.02.2000 12:00:00.0000 CAN #1 | Rx 123 0\n";
+    let answer = numbers::read_ascii(format!("{line}x\n").as_bytes(), &mut [0; 40]);
+    assert_eq!(answer, [31, 2, 0, 0]);
+    let answer = numbers::read_ascii(line.as_bytes(), &mut [0; 19]);
+    assert_eq!(answer, [8, 0, 0, 0]);
     assert_eq!(numbers::explain(b"", 13, 1), [21, 0, 0, 0]);
     assert_eq!(numbers::explain(b";", 12, 1), [30, 0, 0, 0]);
     assert_eq!(numbers::explain(b";", 12, 0), [30, 0, 0, 0]);
@@ -236,6 +242,22 @@ fn in_words() {
             0,
             "the line is a row or a comment or holds CR or LF, or its number is above 999,999 (refusal 30)",
         ),
+        (
+            31,
+            3,
+            "line 3 is no line of Telemotive ASCII, or has more than 250 bytes, or is not ended (refusal 31)",
+        ),
+        (
+            32,
+            2,
+            "the stamp of line 2 lies before the start, that of line 1 cut to the millisecond (refusal 32)",
+        ),
+        (
+            33,
+            7,
+            "the stamp of line 7 lies more than 99,999,999,999,999 microseconds behind the start (refusal 33)",
+        ),
+        (34, 0, "there are more than 999,999 lines (refusal 34)"),
     ];
     assert_eq!(cases.len(), Reason::ALL.len());
     for (number, place, words) in cases {
@@ -243,7 +265,7 @@ fn in_words() {
         assert_eq!(reason.number(), number);
         assert_eq!(shown(reason, place), words);
     }
-    for number in [0, 9, 19, 27, 29, 31, u64::MAX] {
+    for number in [0, 9, 19, 27, 29, 35, u64::MAX] {
         assert_eq!(Reason::of(number), None);
     }
 }
