@@ -1,6 +1,8 @@
 /* Prints what a trace file holds, and its export: convert FILE; or its refusal, and for a line that is no row what is wrong with it, in words.
+ * Reads lines of Telemotive ASCII back, as they return edited: convert --ascii FILE. Prints them as an export has them; or the refusal, and in words
+ * what is wrong.
  * All lines end with CR LF, as those of the export do. A pipe will do as well.
- * Ends with 0 if the trace was exported, 1 if it was refused, and 2 if it could not be done. */
+ * Ends with 0 if the trace or the lines were exported, 1 if they were refused, and 2 if it could not be done. */
 #include "bushingowl.h"
 
 #include <errno.h>
@@ -117,7 +119,7 @@ static void name_column(char name[COLUMN], struct bytes line, uint64_t version, 
         snprintf(name, COLUMN, "%s", is(type, "Warng") ? "word" : "");
 }
 
-/* Prints at most 40 bytes of a field, in quotes. What can't be seen is printed as its number. */
+/* Prints at most 40 bytes of a field or part, in quotes. What can't be seen is printed as its number. */
 static int put_quoted(struct bytes field)
 {
     int done = putchar('"') != EOF;
@@ -214,19 +216,155 @@ static int put_text(const uint8_t *text, size_t len, int *status)
     return done;
 }
 
+/* A part of a line of Telemotive ASCII: its name, and one that is good there. */
+struct part {
+    const char *name, *good;
+};
+
+/* The parts up to the length, with a standard ID and with an extended one. */
+static const struct part standard[] = {
+    {"date", "30.12.1899"}, {"time", "00:00:00.0000"}, {"message type", "CAN"}, {"channel", "#1"}, {"bar", "|"},
+    {"direction", "Rx"}, {"ID", "000"}, {"length", "0"},
+};
+static const struct part extended[] = {
+    {"date", "30.12.1899"}, {"time", "00:00:00.0000"}, {"message type", "CANExt"}, {"channel", "#1"}, {"bar", "|"},
+    {"EXTENDED", "EXTENDED"}, {"direction", "Rx"}, {"ID", "00000000"}, {"length", "0"},
+};
+
+/* What comes next behind the first so many parts of a line, with which some line begins: its name goes to `name`, and one that is good there is given.
+ * Null behind the last. Parts are what stands between blanks. */
+static const char *next_part(struct bytes line, uint64_t parts, char name[COLUMN])
+{
+    int wide = parts > 2 && is(field_of(line, 3), "CANExt");
+    uint64_t head = wide ? 9 : 8;
+    if (parts < head) {
+        struct part part = wide ? extended[parts] : standard[parts];
+        snprintf(name, COLUMN, "%s", part.name);
+        return part.good;
+    }
+    struct bytes length = field_of(line, head);
+    int bytes = length.len == 1 && *length.at >= '0' && *length.at <= '8' ? *length.at - '0' : 0;
+    if (parts - head >= (uint64_t)bytes)
+        return NULL;
+    snprintf(name, COLUMN, "data byte %d of %d", (int)(parts - head) + 1, bytes);
+    return "00";
+}
+
+/* Whether some line begins with the first so many parts of this one, which has at most 250 bytes: the library takes them with good ones behind. */
+static int begins_line(struct bytes line, uint64_t parts)
+{
+    /* For what the line has, and the good parts of a whole line. */
+    char text[400], name[COLUMN];
+    struct bytes begun = {(const uint8_t *)text, 0};
+    for (uint64_t part = 1; part <= parts; part++) {
+        struct bytes given = field_of(line, part);
+        if (part > 1)
+            text[begun.len++] = ' ';
+        memcpy(text + begun.len, given.at, given.len);
+        begun.len += given.len;
+    }
+    for (const char *good; (good = next_part(begun, parts, name)) != NULL; parts++)
+        begun.len += (size_t)sprintf(text + begun.len, " %s", good);
+    /* Before LF alone a CR of the line would be part of its end. */
+    memcpy(text + begun.len, "\r\n", 2);
+    uint8_t record[BUSHINGOWL_RECORD];
+    uint64_t read[4];
+    bo_read_ascii(begun.at, begun.len + 2, record, sizeof record, read);
+    return read[0] == 0;
+}
+
+/* Prints what is wrong with the line, from 1, at which a text was refused with 31. */
+static int put_no_line(const uint8_t *text, size_t len, uint64_t number)
+{
+    const uint8_t *end = text + len, *lf;
+    struct bytes line = {text, 0};
+    while ((lf = memchr(line.at, '\n', (size_t)(end - line.at))) != NULL && --number > 0)
+        line.at = lf + 1;
+    if (lf == NULL)
+        return printf("the line is not ended by CR LF or LF\r\n") >= 0;
+    line.len = (size_t)(lf - line.at);
+    if (line.len > 0 && line.at[line.len - 1] == '\r')
+        line.len--;
+    if (line.len > 250)
+        return printf("the line has more than 250 bytes\r\n") >= 0;
+    char last[COLUMN], next[COLUMN];
+    uint64_t parts = 0;
+    for (; field_of(line, parts + 1).len > 0; parts++) {
+        if (begins_line(line, parts + 1))
+            continue;
+        int done = printf("part %" PRIu64, parts + 1) >= 0;
+        done = done && (next_part(line, parts, next) == NULL ? printf(" is one too many: ") : printf(" (%s) is wrong: ", next)) >= 0;
+        return done && put_quoted(field_of(line, parts + 1)) && printf("\r\n") >= 0;
+    }
+    if (next_part(line, parts, next) == NULL)
+        return printf("a blank stands before the first part or behind the last\r\n") >= 0;
+    if (parts == 0)
+        return printf("the line is empty: %s was expected\r\n", next) >= 0;
+    next_part(line, parts - 1, last);
+    return printf("the line ended early after part %" PRIu64 " (%s): %s was expected next\r\n", parts, last, next) >= 0;
+}
+
+/* Prints why lines of Telemotive ASCII are refused. */
+static int put_ascii_refusal(const uint8_t *text, size_t len, const uint64_t read[4])
+{
+    int done = put_refusal(read[0], read[1]);
+    switch (read[0]) {
+    case 1:
+        return done && printf("the text has more than 134217728 bytes\r\n") >= 0;
+    case 31:
+        return done && put_no_line(text, len, read[1]);
+    case 32:
+        return done && printf("its stamp lies before the start, that of line 1 cut to the millisecond\r\n") >= 0;
+    case 33:
+        return done && printf("its stamp lies more than 99999999999999 microseconds behind the start, that of line 1 cut to the millisecond\r\n") >= 0;
+    case 34:
+        return done && printf("there are more than 999999 lines\r\n") >= 0;
+    default:
+        /* There is room for the records. */
+        return done;
+    }
+}
+
+/* What is printed for lines of Telemotive ASCII: status is 0 if they are good, and 1 if they are refused. */
+static int put_ascii(const uint8_t *text, size_t len, int *status)
+{
+    size_t lines = len / BUSHINGOWL_LEAST_LINE;
+    if (lines > BUSHINGOWL_MOST_ROWS)
+        lines = BUSHINGOWL_MOST_ROWS;
+    uint8_t *records = room(lines * BUSHINGOWL_RECORD);
+    uint64_t read[4];
+    bo_read_ascii(text, len, records, lines * BUSHINGOWL_RECORD, read);
+    *status = 1;
+    if (read[0] != 0) {
+        free(records);
+        return put_ascii_refusal(text, len, read);
+    }
+    lines = (size_t)read[3];
+    uint8_t *spelled = room(lines * BUSHINGOWL_MOST_LINE);
+    uint64_t exported[5];
+    bo_export(read[2], records, lines * BUSHINGOWL_RECORD, spelled, lines * BUSHINGOWL_MOST_LINE, exported);
+    free(records);
+    /* Records just read are not refused. */
+    *status = exported[0] == 0 ? 0 : 1;
+    int done = *status == 0 ? put(spelled, (size_t)exported[2]) : put_refusal(exported[0], exported[1]);
+    free(spelled);
+    return done;
+}
+
 int main(int argc, char **argv)
 {
-    if (argc != 2) {
-        fputs("usage: convert FILE\n", stderr);
+    int option = argc > 1 && strcmp(argv[1], "--ascii") == 0;
+    if (argc != (option ? 3 : 2)) {
+        fputs("usage: convert FILE, or convert --ascii FILE\n", stderr);
         return 2;
     }
 #ifdef SIGPIPE
     signal(SIGPIPE, SIG_IGN);
 #endif
     size_t len = 0;
-    uint8_t *text = contents(argv[1], &len);
+    uint8_t *text = contents(argv[argc - 1], &len);
     int status;
-    int done = put_text(text, len, &status) && fflush(stdout) == 0;
+    int done = (option ? put_ascii(text, len, &status) : put_text(text, len, &status)) && fflush(stdout) == 0;
     /* A reader that closes early has what it wants. */
     if (!done && errno != EPIPE) {
         fprintf(stderr, "convert: can't write: %s\n", strerror(errno));
