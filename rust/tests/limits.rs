@@ -1,8 +1,9 @@
 //! The constants are the very limits: what is as large is taken, and one more is not.
 
 use bushingowl::{
-    export_to_vec, pack, read_to_vec, unpack, write_to_vec, Kind, Reason, Record, LEAST_ROW,
-    MOST_HEADER, MOST_LINE, MOST_OFFSET, MOST_ROW, MOST_ROWS, MOST_START, MOST_TEXT, RECORD,
+    export_to_vec, pack, read_ascii_to_vec, read_to_vec, unpack, write_to_vec, Kind, Reason,
+    Record, LEAST_LINE, LEAST_ROW, MOST_HEADER, MOST_LINE, MOST_OFFSET, MOST_ROW, MOST_ROWS,
+    MOST_START, MOST_TEXT, RECORD,
 };
 
 /// The record with the longest row and the longest line, but for its number.
@@ -107,6 +108,20 @@ fn of_the_shortest_rows() {
     assert_eq!((trace.rows, records.len()), (1, RECORD));
     let shorter = format!("{head}1) 0.0 Rx 000 0\r\n");
     assert_eq!(read_to_vec(shorter.as_bytes()).unwrap_err().place, 3);
+}
+
+#[test]
+fn of_the_shortest_lines() {
+    let line = "29.02.2000 12:00:00.0000 CAN #1 | Rx 123 0\n";
+    assert_eq!(line.len(), LEAST_LINE);
+    let (back, records) = read_ascii_to_vec(line.as_bytes()).unwrap();
+    assert_eq!((back.records, records.len()), (1, RECORD));
+    // Without any one byte it is none.
+    for at in 0..line.len() {
+        let shorter = [&line[..at], &line[at + 1..]].concat();
+        let refused = read_ascii_to_vec(shorter.as_bytes()).unwrap_err();
+        assert_eq!((refused.number(), refused.place), (31, 1), "{shorter}");
+    }
 }
 
 #[test]
