@@ -42,6 +42,25 @@ fn date(days: u64) -> (u64, u64, u64) {
     (day - before[month - 1] + 1, month as u64, year)
 }
 
+/// The days since 30 December 1899 of a date, if it exists and is not before.
+pub fn days(day: u64, month: u64, year: u64) -> Option<u64> {
+    let years = year.checked_sub(1601)?;
+    let leap = year % 4 == 0 && (year % 100 != 0 || year % 400 == 0);
+    let before = &BEFORE[usize::from(leap)];
+    let month = month.checked_sub(1)? as usize;
+    let first = before.get(month)?;
+    let next = before
+        .get(month + 1)
+        .copied()
+        .unwrap_or(365 + u64::from(leap));
+    let day = first + day.checked_sub(1)?;
+    if day >= next {
+        return None;
+    }
+    let whole = years * 365 + years / 4 - years / 100 + years / 400;
+    (whole + day).checked_sub(FIRST_DAY)
+}
+
 /// A stamp's text up to its point, kept for as long as the second lasts, and its date for as long as the day does.
 pub struct Clock {
     text: [u8; 20],
@@ -112,6 +131,7 @@ mod tests {
         for days in 0..200_000 {
             assert_eq!(date(days), expected);
             let (day, month, year) = expected;
+            assert_eq!(super::days(day, month, year), Some(days));
             let last = match month {
                 2 => 28 + u64::from(leap(year)),
                 4 | 6 | 9 | 11 => 30,
@@ -126,7 +146,36 @@ mod tests {
     }
 
     #[test]
+    fn no_other_dates() {
+        let mut dates = 0;
+        for year in 0..=9999 {
+            for (month, day) in (0..=13).flat_map(|month| (0..=33).map(move |day| (month, day))) {
+                dates += u64::from(days(day, month, year).is_some_and(|days| days < 200_000));
+            }
+        }
+        assert_eq!(dates, 200_000);
+        for (day, month, year) in [
+            (29, 12, 1899),
+            (31, 12, 1898),
+            (0, 1, 2000),
+            (1, 0, 2000),
+            (1, 13, 2000),
+            (29, 2, 1900),
+            (29, 2, 2100),
+            (30, 2, 2000),
+            (31, 4, 2000),
+            (32, 12, 2000),
+            (99, 99, 9999),
+        ] {
+            assert_eq!(days(day, month, year), None);
+        }
+    }
+
+    #[test]
     fn of_the_paper() {
+        assert_eq!(days(30, 12, 1899), Some(0));
+        assert_eq!(days(13, 10, 2173), Some(99_999));
+        assert_eq!(days(14, 10, 2173), Some(100_000));
         assert_eq!(date(36_585), (29, 2, 2000));
         assert_eq!(date(25_569), (1, 1, 1970));
         assert_eq!(milliseconds(6_772_258_947), 58_512_317);

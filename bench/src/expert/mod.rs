@@ -1,9 +1,13 @@
 //! An independent implementation of the library, written from the paper alone: plain, safe and fast.
 //!
-//! The functions have the signatures and answers of `bushingowl::numbers`.
+//! The functions have the signatures and answers of `bushingowl::numbers`; `read_ascii` has those of `bo_read_ascii`.
 
 #![forbid(unsafe_code)]
 
+mod ascii_line;
+mod ascii_reader;
+#[cfg(test)]
+mod ascii_tests;
 mod clock;
 mod cursor;
 mod explain;
@@ -19,6 +23,7 @@ mod tables;
 mod tests;
 mod writer;
 
+pub use ascii_reader::read_ascii;
 pub use explain::explain;
 pub use export::export;
 pub use reader::read;

@@ -6,7 +6,8 @@ use super::record::Fields;
 use super::row::row;
 use super::{Refusal, DAY, LAST_START, RECORD};
 
-const LONGEST_TEXT: usize = 134_217_728;
+/// The most bytes of a text.
+pub const LONGEST_TEXT: usize = 134_217_728;
 
 pub fn read(text: &[u8], out: &mut [u8]) -> [u64; 7] {
     match read_or_refuse(text, out) {
@@ -75,9 +76,9 @@ fn each_row<const JUDGED: bool>(
     Ok((rows, first))
 }
 
-/// The window of a text that does not fill it: zeros follow, which no row has.
+/// The window of a text that does not fill it: zeros follow, which no row and no line of ASCII has.
 #[cold]
-fn padded<'a>(text: &[u8], window: &'a mut Window) -> &'a Window {
+pub fn padded<'a>(text: &[u8], window: &'a mut Window) -> &'a Window {
     window.fill(0);
     window[..text.len()].copy_from_slice(text);
     window

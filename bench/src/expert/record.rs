@@ -2,7 +2,7 @@
 
 use super::RECORD;
 
-const LAST_OFFSET: u64 = 99_999_999_999_999;
+pub const LAST_OFFSET: u64 = 99_999_999_999_999;
 /// The kinds from 2 on: remote frames received and sent, then what is no frame.
 pub const REMOTE: u64 = 2;
 pub const WARNING: u64 = 4;

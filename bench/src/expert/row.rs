@@ -99,7 +99,7 @@ impl<const JUDGED: bool> Cursor<'_, JUDGED> {
 
     /// Whether it is sent: `Rx` or `Tx`.
     #[inline(always)]
-    fn direction(&mut self) -> Option<u64> {
+    pub fn direction(&mut self) -> Option<u64> {
         let direction = self.take()?;
         self.must(matches!(direction, b"Rx" | b"Tx"))?;
         Some(u64::from(direction == b"Tx"))
@@ -146,7 +146,7 @@ impl<const JUDGED: bool> Cursor<'_, JUDGED> {
 
     /// Eight bytes up to the end of the line, where there is room for just one blank between two.
     #[inline(always)]
-    fn eight_bytes(&mut self, bytes: &[u8; TOGETHER]) -> Option<u64> {
+    pub fn eight_bytes(&mut self, bytes: &[u8; TOGETHER]) -> Option<u64> {
         let bytes = bytes.as_chunks::<3>().0;
         self.must(bytes[..7].iter().all(|[.., blank]| *blank == b' '))?;
         self.skip(TOGETHER - 1);
@@ -155,7 +155,7 @@ impl<const JUDGED: bool> Cursor<'_, JUDGED> {
 
     /// So many bytes with gaps of any width.
     #[inline(always)]
-    fn bytes(&mut self, length: u64) -> Option<u64> {
+    pub fn bytes(&mut self, length: u64) -> Option<u64> {
         let mut data = 0;
         for place in 1..=length {
             if place > 1 {
