@@ -1,5 +1,7 @@
 //! Compares the library with the expert: `compare [INPUTS [SEED]]`.
 
+use bushingowl_bench::compare::ascii_limits::ascii_limits;
+use bushingowl_bench::compare::every_ascii::every_ascii;
 use bushingowl_bench::compare::every_field::every_field;
 use bushingowl_bench::compare::inputs::one_input;
 use bushingowl_bench::compare::limits::limits;
@@ -39,8 +41,12 @@ fn main() -> ExitCode {
     if let Err(difference) = every_field(&mut runs).and_then(|()| long_lines(&mut runs)) {
         return differs("short fields and long lines", &difference);
     }
-    println!("lines done, now the size limits");
-    if let Err(difference) = limits(&mut runs) {
+    println!("lines done, now every part of a line of ASCII");
+    if let Err(difference) = every_ascii(&mut runs) {
+        return differs("every part", &difference);
+    }
+    println!("parts done, now the size limits");
+    if let Err(difference) = limits(&mut runs).and_then(|()| ascii_limits(&mut runs)) {
         return differs("size limits", &difference);
     }
     finish(&runs, inputs)

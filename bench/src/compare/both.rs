@@ -5,13 +5,19 @@ use crate::boundary;
 use crate::expert;
 use crate::inputs::random::Random;
 use crate::inputs::records::Fields;
-use bushingowl::numbers;
+use bushingowl::{numbers, RECORD};
 use std::cell::Cell;
 use std::hint::black_box;
 use std::ops::Range;
 
 /// The bytes on both sides of every buffer that no call may change.
 const GUARD: usize = 64;
+
+/// Rows of a trace and lines of ASCII, either as others may be continued by them.
+const BEYOND: [&[u8]; 2] = [
+    b"\r\n1) 0.0 Rx 0123 0\r\n 0A 0A\r\n",
+    b"\r\n13.10.2173 00:00:00.0000 CAN #1 | Rx 123 0\n 0A 0A\r\n",
+];
 
 /// The buffers, kept from call to call.
 pub struct Both {
@@ -150,6 +156,26 @@ impl Both {
         })
     }
 
+    pub fn read_ascii(&mut self, text: &[u8], room: usize) -> Result<[u64; 4], Difference> {
+        let before = self.random.number();
+        let unchanged = Cell::new(true);
+        let library = |text: &[u8], out: &mut [u8]| {
+            let answer = boundary::read_ascii(text, out, before);
+            unchanged.set(answer.is_some());
+            answer.unwrap_or_default()
+        };
+        let written = |answer: &[u64; 4]| RECORD * answer[3] as usize;
+        let answer = self.run(text, room, library, expert::read_ascii, written);
+        match unchanged.get() {
+            true => answer,
+            false => Err("the library changed numbers around its answer".to_string()),
+        }
+        .map_err(|what| Difference {
+            what: format!("reading ASCII into {room} bytes: {what}"),
+            input: shown(text),
+        })
+    }
+
     /// Both calls. `written` gives the bytes that an accepted call has written, by its answer.
     fn run<const N: usize>(
         &mut self,
@@ -185,7 +211,7 @@ impl Both {
         if random.once_in(2) {
             // What a reader that goes on past the end would like to find there.
             self.source.extend(random.pick(&[b"\n", b"0", b" ", b"\r"]));
-            self.source.extend(b"\r\n1) 0.0 Rx 0123 0\r\n 0A 0A\r\n");
+            self.source.extend(random.pick(&BEYOND));
         }
         noise(random, &mut self.source, GUARD);
         self.source_before.clone_from(&self.source);

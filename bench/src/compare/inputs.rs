@@ -1,5 +1,6 @@
 //! One input at random, of any kind.
 
+use super::ascii::one_text;
 use super::runs::Runs;
 use super::Checked;
 use crate::inputs::damage::{damage, damage_records};
@@ -9,7 +10,13 @@ use crate::inputs::records::{changed, packed, packed_all, record};
 use crate::inputs::spelling::Spelled;
 use crate::inputs::{noise, LAST_START};
 
+/// Of a hundred inputs, those that are texts of Telemotive ASCII.
+const ASCII: usize = 45;
+
 pub fn one_input(runs: &mut Runs) -> Checked {
+    if runs.random.below(100) < ASCII {
+        return one_text(runs);
+    }
     match runs.random.below(20) {
         0..=5 => spelled(runs),
         6..=11 => damaged(runs),
@@ -110,6 +117,7 @@ fn list(random: &mut Random, version: u64) -> (bool, Vec<u8>) {
     (false, records)
 }
 
+/// Any start, at times one past the last.
 fn start(random: &mut Random) -> u64 {
     let any = random.number() % (LAST_START + 1);
     let past = random.pick(&[LAST_START + 1, u64::MAX, 1 << 63, 1 << 43]);

@@ -1,6 +1,9 @@
 //! The library and the expert on the same inputs.
 
+mod ascii;
+pub mod ascii_limits;
 mod both;
+pub mod every_ascii;
 pub mod every_field;
 pub mod inputs;
 pub mod limits;

@@ -3,6 +3,7 @@
 use super::both::Both;
 use super::tally::Tally;
 use super::{shown, Difference};
+use crate::inputs::ascii::LEAST;
 use crate::inputs::random::Random;
 use crate::inputs::records::Fields;
 use crate::inputs::LAST_NUMBER;
@@ -112,6 +113,71 @@ impl Runs {
         let again = self.both.export(start, records, room)?;
         self.tally.count("exported into other room", again[0]);
         Ok(answer)
+    }
+
+    /// The text of an export that is accepted.
+    pub fn exported(&mut self, start: u64, records: &[u8]) -> Result<Vec<u8>, Difference> {
+        let answer = self.export("export: to be read back", start, records)?;
+        let most = records.len() / RECORD * MOST_LINE;
+        let again = self.both.export(start, records, most)?;
+        match answer == again && answer[0] == 0 {
+            true => Ok(self.both.output(answer[2] as usize).to_vec()),
+            false => Err(self.wrong("good records are not exported", records)),
+        }
+    }
+
+    /// Reads Telemotive ASCII. What must come of it may be known: the answer and the records.
+    pub fn read_ascii(
+        &mut self,
+        kind: &'static str,
+        text: &[u8],
+        known: Option<&([u64; 4], Vec<u8>)>,
+    ) -> Result<[u64; 4], Difference> {
+        let most = (text.len() / LEAST + 1) * RECORD;
+        let answer = self.both.read_ascii(text, most)?;
+        self.tally.count_ascii(kind, answer[0]);
+        let exact = answer[3] as usize * RECORD;
+        let records = self.both.output(exact).to_vec();
+        if known.is_some_and(|(known, bytes)| *known != answer || *bytes != records) {
+            return Err(self.wrong(&format!("{answer:?} is not what the lines say"), text));
+        }
+        let room = self.other_room(exact);
+        let again = self.both.read_ascii(text, room)?;
+        self.tally
+            .count_ascii("ascii: read into other room", again[0]);
+        let expected = if room < exact { [8, 0, 0, 0] } else { answer };
+        if again != expected || !records.starts_with(self.both.output(again[3] as usize * RECORD)) {
+            return Err(self.wrong(&format!("{again:?} with a room of {room}"), text));
+        }
+        if answer[0] == 0 {
+            self.exported_and_back(text, &records, answer)?;
+        }
+        Ok(answer)
+    }
+
+    /// What was read must be exported as the same lines in house spelling, and those must be read as the same.
+    fn exported_and_back(
+        &mut self,
+        text: &[u8],
+        records: &[u8],
+        answer: [u64; 4],
+    ) -> Result<(), Difference> {
+        let [_, _, start, lines] = answer;
+        let house = house_spelling(text);
+        let exported = self.both.export(start, records, house.len())?;
+        self.tally
+            .count("exported after reading ASCII", exported[0]);
+        let bytes = house.len() as u64;
+        if exported != [0, 0, bytes, lines, 0] || self.both.output(house.len()) != house {
+            return Err(self.wrong("the export of what was read has other lines", text));
+        }
+        let again = self.both.read_ascii(&house, records.len())?;
+        self.tally
+            .count_ascii("ascii: read after exporting", again[0]);
+        match again == answer && self.both.output(records.len()) == records {
+            true => Ok(()),
+            false => Err(self.wrong("what was exported is not read as the same", &house)),
+        }
     }
 
     pub fn unpack(&mut self, kind: &'static str, record: &[u8]) -> Result<(), Difference> {
@@ -242,6 +308,26 @@ impl Runs {
             input: shown(input),
         }
     }
+}
+
+/// Lines with one blank between two parts, small hexadecimal letters, which stand behind the direction only, and CR LF.
+fn house_spelling(text: &[u8]) -> Vec<u8> {
+    let mut house = Vec::with_capacity(text.len());
+    for line in text.split_inclusive(|&byte| byte == b'\n') {
+        let mut small = false;
+        let parts = line.split(|byte| b" \r\n".contains(byte));
+        for part in parts.filter(|part| !part.is_empty()) {
+            match small {
+                true => house.extend(part.to_ascii_lowercase()),
+                false => house.extend(part),
+            }
+            house.push(b' ');
+            small |= matches!(part, b"Rx" | b"Tx");
+        }
+        house.pop();
+        house.extend(b"\r\n");
+    }
+    house
 }
 
 /// The number of a row.

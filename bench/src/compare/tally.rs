@@ -4,7 +4,11 @@ use std::collections::BTreeMap;
 use std::ops::RangeInclusive;
 
 /// The numbers that must be seen.
-const NUMBERS: [u64; 17] = [0, 1, 2, 3, 4, 5, 6, 7, 8, 20, 21, 22, 23, 24, 25, 26, 30];
+const NUMBERS: [u64; 21] = [
+    0, 1, 2, 3, 4, 5, 6, 7, 8, 20, 21, 22, 23, 24, 25, 26, 30, 31, 32, 33, 34,
+];
+/// Those that must be seen of the reader of ASCII.
+const ASCII: [u64; 7] = [0, 1, 8, 31, 32, 33, 34];
 /// The fields that must be seen as wrong, the last with all behind it, and those after which a line must have ended early.
 const WRONG: RangeInclusive<usize> = 1..=15;
 const EARLY: RangeInclusive<usize> = 0..=13;
@@ -15,6 +19,8 @@ type Counts = [u64; NUMBERS.len()];
 #[derive(Default)]
 pub struct Tally {
     kinds: BTreeMap<&'static str, Counts>,
+    /// All calls of the reader of ASCII, which are among the kinds, too.
+    ascii: Counts,
     /// How often each field was given with each of the two reasons.
     fields: [[u64; 16]; 2],
 }
@@ -27,6 +33,14 @@ impl Tally {
         }
     }
 
+    /// A call of the reader of ASCII.
+    pub fn count_ascii(&mut self, kind: &'static str, number: u64) {
+        self.count(kind, number);
+        if let Some(column) = NUMBERS.iter().position(|&n| n == number) {
+            self.ascii[column] += 1;
+        }
+    }
+
     pub fn explained(&mut self, reason: u64, field: u64) {
         let field = field.min(*WRONG.end() as u64) as usize;
         if let Some(fields) = self.fields.get_mut(reason as usize - 1) {
@@ -34,17 +48,20 @@ impl Tally {
         }
     }
 
-    /// The numbers, and the fields with each reason, that were never given.
+    /// The numbers, those of the reader of ASCII, and the fields with each reason, that were never given.
     pub fn unseen(&self) -> Vec<String> {
         let [wrong, early] = self.fields;
         let numbers = NUMBERS.iter().zip(self.sums());
         let numbers = numbers.filter(|(_, sum)| *sum == 0);
         let numbers = numbers.map(|(number, _)| number.to_string());
+        let ascii = NUMBERS.iter().zip(self.ascii);
+        let ascii = ascii.filter(|(number, sum)| *sum == 0 && ASCII.contains(number));
+        let ascii = ascii.map(|(number, _)| format!("{number} for ASCII"));
         let wrong = WRONG.filter(|&field| wrong[field] == 0);
         let wrong = wrong.map(|field| format!("wrong field {field}"));
         let early = EARLY.filter(|&field| early[field] == 0);
         let early = early.map(|field| format!("ended early after field {field}"));
-        numbers.chain(wrong).chain(early).collect()
+        numbers.chain(ascii).chain(wrong).chain(early).collect()
     }
 
     pub fn print(&self) {
@@ -54,6 +71,7 @@ impl Tally {
         for (kind, counts) in &self.kinds {
             print_counts(kind, counts);
         }
+        print_counts("all ascii", &self.ascii);
         print_counts("all", &self.sums());
         let last = WRONG.end();
         let names = (0..*last).map(|field| field.to_string());

@@ -36,7 +36,7 @@ pub fn damage(random: &mut Random, text: &mut Vec<u8>) {
     let mut rows = text.split_off(rows_at);
     for _ in 0..random.pick(&[1, 1, 1, 2, 3]) {
         match random.below(5) {
-            0 => damage_byte(random, &mut rows),
+            0 => damage_byte(random, &mut rows, ALPHABET),
             1 => damage_line_end(random, &mut rows),
             2 => damage_lines(random, &mut rows),
             3 => damage_numbers(random, &mut rows),
@@ -46,16 +46,17 @@ pub fn damage(random: &mut Random, text: &mut Vec<u8>) {
     text.append(&mut rows);
 }
 
-pub fn damage_byte(random: &mut Random, text: &mut Vec<u8>) {
+/// Changes, adds or loses a byte, or all behind it. Bytes that come in are mostly of the alphabet.
+pub fn damage_byte(random: &mut Random, text: &mut Vec<u8>, alphabet: &[u8]) {
     let at = random.below(text.len() + 1);
     if at == text.len() {
-        return text.push(random.pick(ALPHABET));
+        return text.push(random.pick(alphabet));
     }
     match random.below(8) {
         0 => text[at] ^= 1 << random.below(8),
         1 => text[at] = random.byte(),
-        2 => text[at] = random.pick(ALPHABET),
-        3 => text.insert(at, random.pick(ALPHABET)),
+        2 => text[at] = random.pick(alphabet),
+        3 => text.insert(at, random.pick(alphabet)),
         4 => text.insert(at, text[at]),
         5 => drop(text.remove(at)),
         6 => text.truncate(at),

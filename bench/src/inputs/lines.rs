@@ -141,7 +141,7 @@ fn damage_field(random: &mut Random, field: &mut Vec<u8>) {
         3 => field.make_ascii_uppercase(),
         4 => field.make_ascii_lowercase(),
         5 => field.insert(0, b'0'),
-        _ => damage_byte(random, field),
+        _ => damage_byte(random, field, ALPHABET),
     }
 }
 

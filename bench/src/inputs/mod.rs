@@ -1,5 +1,8 @@
-//! Inputs at random: records, texts that spell them, lines like rows, and damage to all of them.
+//! Inputs at random: records, texts that spell them, lines like rows, lines of Telemotive ASCII, and damage to all of them.
 
+pub mod ascii;
+pub mod ascii_damage;
+pub mod ascii_spoiled;
 pub mod damage;
 pub mod lines;
 pub mod noise;

@@ -38,7 +38,8 @@ fn offset(random: &mut Random, version: u64) -> u64 {
     }
 }
 
-fn frame(random: &mut Random, kind: u64) -> [u64; 5] {
+/// What follows the bus of a data or remote frame.
+pub fn frame(random: &mut Random, kind: u64) -> [u64; 5] {
     let extended = random.pick(&[0, 1]);
     let last = [0x7FF, 0x1FFF_FFFF][extended as usize];
     let any = random.number() & last;

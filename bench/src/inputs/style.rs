@@ -130,7 +130,8 @@ impl Style {
         " ".repeat(random.below(self.blanks + 1))
     }
 
-    fn cased(&self, random: &mut Random, digits: &str) -> String {
+    /// Digits, given as capitals, in the letter case of this style.
+    pub fn cased(&self, random: &mut Random, digits: &str) -> String {
         match self.case {
             Case::Capital => digits.to_string(),
             Case::Small => digits.to_ascii_lowercase(),
