@@ -1,8 +1,9 @@
 //! An earlier library, opened as a shared object: the present one is linked, and its functions have the same names.
 //!
 //! Why every call here is sound:
-//! - The script `measure` makes the shared object of an archive whose functions are those of `include/bushingowl.h`, as it is or as it was before
-//!   Order 3. A variable says which, and a first call of the reader, sound for both, tells whether that is so.
+//! - The script `measure` makes the shared object of an archive whose functions are those of `include/bushingowl.h`, as it is, as it was before
+//!   Order 4, which added one, or as it was before Order 3. A variable says whether it is the last, and a first call of the reader, sound for
+//!   all, tells whether that is so. Whether it has the function of Order 4 is told by its name.
 //! - It is never closed, so that its functions stay where they are.
 //! - A slice goes over as its pointer and its length, and the library reads and writes only within the lengths given.
 //! - `&mut` makes sure that the output and the answer overlap with nothing else in the call. No pointer is kept.
@@ -30,8 +31,9 @@ const RTLD_NOW: c_int = 2;
 const VARIABLE: &str = "BUSHINGOWL_BEFORE_SHARED";
 /// The variable that says by which header the library is called: the number that `BUSHINGOWL_API` has there.
 const API: &str = "BUSHINGOWL_BEFORE_API";
-/// The header as it is, and as it was before Order 3.
-const PRESENT: &str = "3";
+/// The header as it is, as it was before Order 4, and before Order 3.
+const PRESENT: &str = "4";
+const WITHOUT_ASCII: &str = "3";
 const FROM_ONE: &str = "2";
 /// What an answer holds before the call. Every call sets every number.
 const UNSET: u64 = u64::MAX;
@@ -41,6 +43,8 @@ pub struct Before {
     read: Read,
     write: Writer,
     export: Export,
+    /// Since Order 4. It has the parameters of the reader.
+    read_ascii: Option<Read>,
 }
 
 enum Writer {
@@ -63,8 +67,19 @@ impl Before {
         let read = function(object, c"bo_read")?;
         let write = function(object, c"bo_write")?;
         let export = function(object, c"bo_export")?;
-        let from_one = from_one()?;
-        // SAFETY: see above; the three are functions of the header, with its parameters.
+        let read_ascii = function(object, c"bo_read_ascii").ok();
+        let api = api()?;
+        let from_one = api.as_deref() == Some(FROM_ONE);
+        match (api.as_deref(), read_ascii) {
+            (Some(PRESENT), None) => {
+                return Err(format!("{API}={PRESENT} is for one with Order 4"));
+            }
+            (Some(older), Some(_)) if older != PRESENT => {
+                return Err(format!("{API}={older} is for one from before Order 4"));
+            }
+            _ => {}
+        }
+        // SAFETY: see above; all are functions of the header, with its parameters.
         let before = unsafe {
             Before {
                 read: transmute::<NonNull<c_void>, Read>(read),
@@ -73,6 +88,7 @@ impl Before {
                     false => Writer::Numbered(transmute::<NonNull<c_void>, Write>(write)),
                 },
                 export: transmute::<NonNull<c_void>, Export>(export),
+                read_ascii: read_ascii.map(|function| transmute::<NonNull<c_void>, Read>(function)),
             }
         };
         let [.., first] = before.numbers_read(b"", &mut []);
@@ -145,14 +161,38 @@ impl Before {
         }
         answer
     }
+
+    /// Whether it reads ASCII, as it does since Order 4.
+    pub fn reads_ascii(&self) -> bool {
+        self.read_ascii.is_some()
+    }
+
+    /// Nothing if it is from before Order 4.
+    pub fn read_ascii(&self, text: &[u8], out: &mut [u8]) -> Option<[u64; 4]> {
+        let read_ascii = self.read_ascii?;
+        let mut answer = [UNSET; 4];
+        // SAFETY: see above; the answer has room for the four numbers of the header.
+        unsafe {
+            read_ascii(
+                text.as_ptr(),
+                text.len(),
+                out.as_mut_ptr(),
+                out.len(),
+                answer.as_mut_ptr(),
+            )
+        }
+        Some(answer)
+    }
 }
 
-/// Whether the variable says that the library is from before Order 3.
-fn from_one() -> Result<bool, String> {
+/// The header that the variable names; if it names none, one since Order 3.
+fn api() -> Result<Option<String>, String> {
     match env::var(API).as_deref() {
-        Err(_) | Ok("" | PRESENT) => Ok(false),
-        Ok(FROM_ONE) => Ok(true),
-        Ok(other) => Err(format!("{API} is {FROM_ONE} or {PRESENT}, not {other}")),
+        Err(_) | Ok("") => Ok(None),
+        Ok(known @ (FROM_ONE | WITHOUT_ASCII | PRESENT)) => Ok(Some(known.to_string())),
+        Ok(other) => Err(format!(
+            "{API} is {FROM_ONE}, {WITHOUT_ASCII} or {PRESENT}, not {other}"
+        )),
     }
 }
 

@@ -1,7 +1,8 @@
 //! Measures the library and the expert, and prints a table: `measure [ROWS...]`. An earlier library is measured beside them if there is one.
 
-use bushingowl::{numbers, MOST_HEADER, MOST_LINE, MOST_ROW};
+use bushingowl::{numbers, MOST_HEADER, MOST_LINE, MOST_ROW, RECORD};
 use bushingowl_bench::before::Before;
+use bushingowl_bench::boundary;
 use bushingowl_bench::cpu_time::cpu_time;
 use bushingowl_bench::expert;
 use bushingowl_bench::inputs::random::Random;
@@ -105,6 +106,25 @@ impl Side {
         }
     }
 
+    /// Whether it reads ASCII, as an earlier library may not.
+    fn reads_ascii(&self) -> bool {
+        match self {
+            Side::Before(before) => before.reads_ascii(),
+            Side::Library | Side::Expert => true,
+        }
+    }
+
+    fn read_ascii(&self, text: &[u8], out: &mut [u8]) -> [u64; 4] {
+        let answer = match self {
+            Side::Library => boundary::read_ascii(text, out, u64::MAX),
+            Side::Before(before) => before.read_ascii(text, out),
+            Side::Expert => Some(expert::read_ascii(text, out)),
+        };
+        answer.expect(
+            "the library changes no numbers around its answer, and one before is asked if it can",
+        )
+    }
+
     fn write(&self, version: u32, records: &[u8], out: &mut [u8]) -> [u64; 3] {
         match self {
             Side::Library => numbers::write(version, START, FIRST, records, out),
@@ -128,9 +148,13 @@ fn measure_all(sides: &[Side], rows: usize, version: u32) {
     let mut text = vec![0; MOST_HEADER + rows * MOST_ROW];
     let [.., len] = expert::write(version, START, FIRST, &records, &mut text);
     text.truncate(len as usize);
+    let mut lines = vec![0; rows * MOST_LINE];
+    let [_, _, len, exported, _] = expert::export(START, &records, &mut lines);
+    lines.truncate(len as usize);
     let case = Case {
-        sides,
+        sides: sides.iter().map(Some).collect(),
         rows,
+        measured: rows,
         version,
     };
     for (name, text) in [("read", &text), ("read columns", &in_columns(&text))] {
@@ -153,11 +177,29 @@ fn measure_all(sides: &[Side], rows: usize, version: u32) {
         |side, out| side.export(START, black_box(&records), out),
         |answer| answer[2] as usize,
     );
+    let case = Case {
+        sides: sides
+            .iter()
+            .map(|side| Some(side).filter(|side| side.reads_ascii()))
+            .collect(),
+        measured: exported as usize,
+        ..case
+    };
+    case.measure(
+        "read ascii",
+        exported as usize * RECORD,
+        |side, out| side.read_ascii(black_box(&lines), out),
+        |_| lines.len(),
+    );
 }
 
 struct Case<'a> {
-    sides: &'a [Side],
+    /// Nothing for a side that can't do it.
+    sides: Vec<Option<&'a Side>>,
+    /// The rows of the trace.
     rows: usize,
+    /// The rows or lines that are read or written: only some rows give a line of ASCII.
+    measured: usize,
     version: u32,
 }
 
@@ -175,8 +217,10 @@ impl Case<'_> {
         let (begin, mut turns) = (Instant::now(), 0);
         let mut best = vec![Duration::MAX; self.sides.len()];
         while turns < OFTEN_ENOUGH || begin.elapsed() < LONG_ENOUGH {
-            for ((side, out), best) in zip(zip(self.sides, &mut outs), &mut best) {
-                *best = time(|| call(side, black_box(out))).min(*best);
+            for ((side, out), best) in zip(zip(&self.sides, &mut outs), &mut best) {
+                if let Some(side) = side {
+                    *best = time(|| call(side, black_box(out))).min(*best);
+                }
             }
             turns += 1;
         }
@@ -189,9 +233,10 @@ impl Case<'_> {
         outs: &mut [Vec<u8>],
         call: impl Fn(&Side, &mut [u8]) -> [u64; N],
     ) -> [u64; N] {
-        let answer = call(&self.sides[0], &mut outs[0]);
+        let answer = call(&Side::Library, &mut outs[0]);
         assert_eq!(answer[0], 0, "refused");
         for (i, side) in self.sides.iter().enumerate().skip(1) {
+            let Some(side) = side else { continue };
             let name = side.name();
             let other = call(side, &mut outs[i]);
             assert_eq!(
@@ -210,8 +255,12 @@ impl Case<'_> {
         let best: Vec<f64> = best.iter().map(Duration::as_secs_f64).collect();
         let speed = |seconds: f64| bytes as f64 / seconds / 1e6;
         let (library, expert) = (speed(best[0]), speed(best[best.len() - 1]));
-        let row = |seconds: &f64| format!("{:.1}", seconds * 1e9 / self.rows as f64);
-        let by_row = best.iter().map(row).collect::<Vec<_>>().join(" | ");
+        let row = |(side, seconds): (&Option<_>, &f64)| match side {
+            Some(_) => format!("{:.1}", seconds * 1e9 / self.measured as f64),
+            None => "-".to_string(),
+        };
+        let by_row: Vec<String> = zip(&self.sides, &best).map(row).collect();
+        let by_row = by_row.join(" | ");
         let (rows, part, ratio) = (self.rows, self.version - 10, library / expert);
         println!(
             "| {rows} | 1.{part} | {name} | {library:.0} | {expert:.0} | {by_row} | {ratio:.3} |"
