@@ -25,7 +25,7 @@ stopped-one (malformed v k f) (no-records g) = absurd (g v)
 stopped-one (malformed v k f) (late w l) = absurd (omega arith)
 stopped-one (malformed v k f) (malformed w l g) = (refl, malformed-one f g)
 
-stopped-number : {start n p : ℕ} {s : List ℕ} → ExportStopped start s n p → 20 ≤ n
+pub stopped-number : {start n p : ℕ} {s : List ℕ} → ExportStopped start s n p → 20 ≤ n
 stopped-number (no-records f) = omega arith
 stopped-number (late w l) = omega arith
 stopped-number (malformed w l f) = omega arith

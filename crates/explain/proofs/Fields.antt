@@ -8,10 +8,10 @@ use native.Mathlib.Decide.{ℕ-discrete}
 use lib.ListN.{length, take, drop, length-append, take-append-drop, drop-of-length-le}
 use lib.Seq.{slice, drop-cons, length-slice, take-at}
 use Rattle.record.specs.declared.Record.{Record}
-use Rattle.fields.specs.Parted.{NoBlank, Parted, none, blank-first, field}
+use Rattle.fields.specs.Parted.{NoBlank, Parted, none}
 use Rattle.fields.specs.Runs.{All, empty, more, Stops, over, halt}
 use Rattle.fields.specs.inner.Window.{Solid}
-use Rattle.fields.proofs.Parts.{blanks, first}
+use Rattle.fields.proofs.Parts.{blanks, first, has-fields}
 use Rattle.fields.proofs.Runs.{all-left, all-right}
 use Rattle.lines.specs.Lines.{Inside}
 use Rattle.lines.specs.inner.Parts.{IsBlank, Ran}
@@ -22,18 +22,6 @@ use Rattle.row.proofs.CanEnd.{CanEnd}
 use Rattle.explain.specs.declared.Explained.the-variants as explained
 use Rattle.explain.specs.Explain.{ExpectedFields, BeginsRow, WrongField, EndedEarly}
 use Rattle.explain.specs.inner.Steps.{Field, Moves, moved, stuck, FieldsBefore, FoundIn}
-
--- Every line has fields.
-
-one-more : {b : ℕ} {s : List ℕ} {fs : List (List ℕ)} → Dec (b ≡ 32) → Parted fs s → (gs : List (List ℕ)) × Parted gs (b ∷ s)
-one-more {fs = fs} (yes e) p = (fs, rw e (blank-first p))
-one-more {b} (no n) none = ((b ∷ []) ∷ [], field (more n empty) over refl none)
-one-more {b} {fs = fs} (no n) (blank-first p) = ((b ∷ []) ∷ fs, field (more n empty) (halt (λ m. m refl)) refl (blank-first p))
-one-more {b} (no n) (field {b = c} {f = f} {fs = gs} a h e p) = ((b ∷ c ∷ f) ∷ gs, field (more n a) h (ap (λ (l : List ℕ). b ∷ l) e) p)
-
-pub has-fields : (s : List ℕ) → (fs : List (List ℕ)) × Parted fs s
-has-fields [] = ([], none)
-has-fields (b ∷ s) = one-more (ℕ-discrete b 32) (has-fields s .1)
 
 -- A gap, and the field behind it.
 module _ {line : List ℕ} {at a e : ℕ} (g : Ran IsBlank line at a) (n : a ≢ length line) (h : Ran NoBlank line a e) where

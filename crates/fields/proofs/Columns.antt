@@ -104,7 +104,7 @@ pub type-one : {a b : ℕ} {f : List ℕ} → TypeField a f → TypeField b f �
 type-one p q = type-told p ∙ sym (type-told q)
 
 -- A spelled-out text is plain where each of its bytes stands behind the blank, which antt computes.
-text-plain : (f : List ℕ) → T (every (λ k x. leb 33 x) 0 f) → All Plain f
+pub text-plain : (f : List ℕ) → T (every (λ k x. leb 33 x) 0 f) → All Plain f
 text-plain f t = all-of f (λ k h. visible (leb→le 33 (getD f k 0) (at (λ k x. leb 33 x) 0 f t k h)))
 
 pub type-plain : {v : ℕ} {f : List ℕ} → TypeField v f → All Plain f

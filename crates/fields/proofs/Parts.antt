@@ -1,10 +1,11 @@
 -- The fields of a line are the only ones.
 use Prim.Native.Nat.{ℕ, _<_}
-use mathlib.Core.Path.{_≡_, refl, sym, _∙_}
+use mathlib.Core.Path.{_≡_, refl, ap, sym, _∙_}
 use mathlib.Core.List.{List, [], _∷_, _++_}
 use native.Mathlib.Omega.{arith}
+use native.Mathlib.Decide.{ℕ-discrete}
 use lib.ListN.{length}
-use Rattle.fields.specs.Runs.{All, empty, more, Stops}
+use Rattle.fields.specs.Runs.{All, empty, more, Stops, over, halt}
 use Rattle.fields.specs.Parted.{NoBlank, Parted, none, blank-first, field}
 use Rattle.fields.proofs.Runs.{cut}
 
@@ -59,3 +60,15 @@ first-only n (more b f) xs (blank-first p) e = absurd (not-blank (more b f) e)
 first-only n (more b f) xs (field {fs = gs} g ys d q) e =
     let r = cut g (more b f) ys xs (sym d ∙ e) in
     (gs, cc (r .0), rw (r .1) at q)
+
+-- Every line has fields.
+
+one-more : {b : ℕ} {s : List ℕ} {fs : List (List ℕ)} → Dec (b ≡ 32) → Parted fs s → (gs : List (List ℕ)) × Parted gs (b ∷ s)
+one-more {fs = fs} (yes e) p = (fs, rw e (blank-first p))
+one-more {b} (no n) none = ((b ∷ []) ∷ [], field (more n empty) over refl none)
+one-more {b} {fs = fs} (no n) (blank-first p) = ((b ∷ []) ∷ fs, field (more n empty) (halt (λ m. m refl)) refl (blank-first p))
+one-more {b} (no n) (field {b = c} {f = f} {fs = gs} a h e p) = ((b ∷ c ∷ f) ∷ gs, field (more n a) h (ap (λ (l : List ℕ). b ∷ l) e) p)
+
+pub has-fields : (s : List ℕ) → (fs : List (List ℕ)) × Parted fs s
+has-fields [] = ([], none)
+has-fields (b ∷ s) = one-more (ℕ-discrete b 32) (has-fields s .1)

@@ -22,7 +22,7 @@ use Rattle.row.proofs.Columns.{AfterType, received, sent, warned, faile
 
 -- The data.
 
-bytes-one : {Then : List (List ℕ) → Type 0} {place n u w : ℕ} {fs : List (List ℕ)}
+pub bytes-one : {Then : List (List ℕ) → Type 0} {place n u w : ℕ} {fs : List (List ℕ)}
     → Row.ByteFields Then place n u fs → Row.ByteFields Then place n w fs → u ≡ w
 bytes-one (Row.done h) (Row.done k) = refl
 bytes-one {place = place} (Row.byte h r e) (Row.byte k q d) =

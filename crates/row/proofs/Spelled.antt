@@ -8,6 +8,7 @@ use native.Mathlib.Omega.{arith}
 use lib.Arith.{mod-mul}
 use lib.ListN.{length}
 use Rattle.base.specs.Limits.{offsetLimit}
+use Rattle.digits.specs.declared.Letters.{Letters}
 use Rattle.digits.specs.declared.Letters.the-variants.{Capital}
 use Rattle.digits.specs.Digits.{Hex}
 use Rattle.digits.specs.House.{decimalText, paddedText, hexText, byteTexts}
@@ -32,26 +33,26 @@ high whole m =
     let z : 0 < 256 = omega arith in
     rw pow-succ' (mod-mul whole z (one-le-pow m 256 z))
 
-byte-spelled : (n : ℕ) → Hex 2 (n % 256) (hexText Capital 2 (n % 256))
-byte-spelled n = hex-spells Capital 2 (n % 256) (omega arith)
+byte-spelled : (c : Letters) (n : ℕ) → Hex 2 (n % 256) (hexText c 2 (n % 256))
+byte-spelled c n = hex-spells c 2 (n % 256) (omega arith)
 
 -- n bytes of a number, from the one at 256 ^ m on, below which it is zero.
-bytes-spelled : (Then : List (List ℕ) → Type 0) → Then [] → (whole n m place u : ℕ) → place ≡ 256 ^ m → n ≤ suc m
-    → whole % 256 ^ (suc m - n) ≡ 0 → u ≡ whole % 256 ^ suc m → Row.ByteFields Then place n u (byteTexts Capital place n whole)
-bytes-spelled Then t whole zero m place u p l z e =
-    let c : u ≡ 0 = e ∙ rw sub-zero at z in
-    rw (c, bytes-none) (Row.done t)
-bytes-spelled Then t whole (suc zero) zero place u p l z e =
+pub bytes-spelled : (c : Letters) (Then : List (List ℕ) → Type 0) → Then [] → (whole n m place u : ℕ) → place ≡ 256 ^ m → n ≤ suc m
+    → whole % 256 ^ (suc m - n) ≡ 0 → u ≡ whole % 256 ^ suc m → Row.ByteFields Then place n u (byteTexts c place n whole)
+bytes-spelled c Then t whole zero m place u p l z e =
+    let k : u ≡ 0 = e ∙ rw sub-zero at z in
+    rw (k, bytes-none) (Row.done t)
+bytes-spelled c Then t whole (suc zero) zero place u p l z e =
     let q : u ≡ whole / place % 256 * place + 0 = rw p (e ∙ omega arith) in
-    rw (bytes-more, bytes-none) (Row.byte (byte-spelled (whole / place)) (Row.done t) q)
-bytes-spelled Then t whole (suc (suc n)) zero place u p l z e = absurd (omega arith)
-bytes-spelled Then t whole (suc n) (suc m) place u p l z e =
+    rw (bytes-more, bytes-none) (Row.byte (byte-spelled c (whole / place)) (Row.done t) q)
+bytes-spelled c Then t whole (suc (suc n)) zero place u p l z e = absurd (omega arith)
+bytes-spelled c Then t whole (suc n) (suc m) place u p l z e =
     let s : suc (suc m) - suc n ≡ suc m - n = omega arith in
-    let c : 0 < 256 = omega arith in
-    let d : place / 256 ≡ 256 ^ m = rw (p, pow-suc) (mul-div-cancel (256 ^ m) c) in
+    let k : 0 < 256 = omega arith in
+    let d : place / 256 ≡ 256 ^ m = rw (p, pow-suc) (mul-div-cancel (256 ^ m) k) in
     let q : u ≡ whole / place % 256 * place + whole % 256 ^ suc m = rw p (e ∙ high whole (suc m)) in
     rw bytes-more
-    (Row.byte (byte-spelled (whole / place)) (bytes-spelled Then t whole n m (place / 256) _ d (omega arith) (rw s at z) refl) q)
+    (Row.byte (byte-spelled c (whole / place)) (bytes-spelled c Then t whole n m (place / 256) _ d (omega arith) (rw s at z) refl) q)
 
 -- The columns.
 
@@ -91,7 +92,7 @@ module _ {r : Record} (w : WellFormed r) where
       let n : r .kind / 2 ≢ 1 = λ z. omega arith in
       rw (data-bytes r n)
       (Row.data-bytes e
-      (bytes-spelled Row.Nothing Row.nothing (r .«data») (r .len) 7 (256 ^ 7) _ refl (w .len) (w .past) eight-bytes))
+      (bytes-spelled Capital Row.Nothing Row.nothing (r .«data») (r .len) 7 (256 ^ 7) _ refl (w .len) (w .past) eight-bytes))
 
   asked : (sent : ℕ) → sent ≤ 1 → r .kind ≡ 2 + sent → r .«data» ≡ 0 → Row.FrameData sent r (dataTexts r)
   asked sent l e d =
@@ -119,7 +120,7 @@ module _ {r : Record} (w : WellFormed r) where
       rw (id-warning r e, d)
       (Row.warning-id e x (hex-spells Capital 8 0xFFFFFFFF (omega arith))
       (Row.warning-length (length-spelled (r .len) 4 (x .len) (omega arith))
-      (bytes-spelled Row.Words Row.none (r .«data») 4 7 (256 ^ 7) _ refl (omega arith) (four-zero (x .len)) eight-bytes)))
+      (bytes-spelled Capital Row.Words Row.none (r .«data») 4 7 (256 ^ 7) _ refl (omega arith) (four-zero (x .len)) eight-bytes)))
 
   four-digits : r .kind ≢ 4 → r .extended ≡ 0 → idText r ≡ hexText Capital 4 (r .id)
   four-digits n e = id-frame r n ∙ ap (λ (k : ℕ). hexText Capital (4 + 4 * k) (r .id)) e
@@ -133,9 +134,9 @@ module _ {r : Record} (w : WellFormed r) where
       rw (i, d, bytes-more, bytes-more)
       (Row.error-id e (x .extended) (hex-spells Capital 4 (r .id) (omega arith)) (x .id)
       (Row.error-length (x .len) (length-spelled (r .len) 4 (x .len) (omega arith))
-      (Row.first (byte-spelled (r .«data» / 256 ^ 7)) (x .first)
-      (Row.second (byte-spelled (r .«data» / 256 ^ 6)) (x .second)
-      (bytes-spelled Row.Nothing Row.nothing (r .«data») 2 5 (256 ^ 5) _ refl (omega arith) (four-zero (x .len)) refl)
+      (Row.first (byte-spelled Capital (r .«data» / 256 ^ 7)) (x .first)
+      (Row.second (byte-spelled Capital (r .«data» / 256 ^ 6)) (x .second)
+      (bytes-spelled Capital Row.Nothing Row.nothing (r .«data») 2 5 (256 ^ 5) _ refl (omega arith) (four-zero (x .len)) refl)
       (high (r .«data») 6)) (eight-bytes ∙ high (r .«data») 7))))
 
   type-spelled : (k : ℕ) → r .kind ≡ k → Row.FromType r (frameTexts r)

@@ -30,11 +30,11 @@ behind text line more at feed d z =
 
 -- The window as a row at `at` sees it: the next n bytes of the text, and CR. They are all that is left, or as many as a line within the limit and its
 -- end have.
-record View (text : List ℕ) (at : ℕ) (s : List ℕ) (n : ℕ) : Type 0 where
-  over : List ℕ
-  bytes : s ≡ take n (drop at text) ++ (13 ∷ over)
-  within : at + n ≤ length text
-  most : n < lineLimit + 2 → at + n ≡ length text
+pub record View (text : List ℕ) (at : ℕ) (s : List ℕ) (n : ℕ) : Type 0 where
+  pub over : List ℕ
+  pub bytes : s ≡ take n (drop at text) ++ (13 ∷ over)
+  pub within : at + n ≤ length text
+  pub most : n < lineLimit + 2 → at + n ≡ length text
 
 -- What is left of bytes that were taken.
 drop-taken : (s : List ℕ) (i n : ℕ) → i ≤ n → n ≤ length s → drop i (take n s) ≡ take (n - i) (drop i s)
@@ -42,7 +42,7 @@ drop-taken s i n h k =
     let m : n ≡ i + (n - i) = omega arith in
     ap (λ (x : ℕ). drop i (take x s)) m ∙ ap (drop i) (take-add i (n - i) s) ∙ drop-at (take i s) (take (n - i) (drop i s)) i (length-take-le i s (omega arith))
 
-view : {text w : List ℕ} {at from : ℕ} (reach : Reaches text at from w) → at ≤ length text
+pub view : {text w : List ℕ} {at from : ℕ} (reach : Reaches text at from w) → at ≤ length text
     → View text at (drop (at - from) w) (reach .windowed .held - (at - from))
 view {text} {w} {at} {from} reach inside =
     let h = reach .windowed in
