@@ -45,11 +45,15 @@ directionText kind = cond (eqb kind 0) typeRx typeTx
 unfoldable pub idDigits : Record → List ℕ
 idDigits r = hexText Small (3 + 5 * r .extended) (r .id)
 
--- What stands behind the stamp.
-abbrev pub partTexts : ℕ → Record → List (List ℕ)
-partTexts channel r =
+-- What stands behind the stamp, the ID in these digits and the data in these bytes.
+abbrev pub partsWith : ℕ → Record → List ℕ → List (List ℕ) → List (List ℕ)
+partsWith channel r id bytes =
     messageTypeText (r .extended) ∷ channelText channel ∷ text "|"
-    ∷ (extendedTexts (r .extended) ++ (directionText (r .kind) ∷ idDigits r ∷ (figureOf (r .len) ∷ []) ∷ byteTexts Small (256 ^ 7) (r .len) (r .«data»)))
+    ∷ (extendedTexts (r .extended) ++ (directionText (r .kind) ∷ id ∷ (figureOf (r .len) ∷ []) ∷ bytes))
+
+-- The same as it is written.
+abbrev pub partTexts : ℕ → Record → List (List ℕ)
+partTexts channel r = partsWith channel r (idDigits r) (byteTexts Small (256 ^ 7) (r .len) (r .«data»))
 
 unfoldable pub lineText : DateTime → ℕ → Record → List ℕ
 lineText s channel r = stampText s ++ (spaced (partTexts channel r) ++ (cr ∷ lf ∷ []))
