@@ -1,0 +1,14 @@
+pub mod Walk
+pub mod Digits
+pub mod Stamps
+pub mod Columns
+pub mod Parts
+pub mod Chain
+pub mod Stages
+pub mod Ending
+pub mod Data
+pub mod Frames
+pub mod Whole
+pub mod One
+pub mod Theorems
+pub mod House

@@ -1,0 +1,2 @@
+pub mod AsciiLine
+pub mod inner
