@@ -1,0 +1,147 @@
+-- Export of what was read: for every accepted text, line by line the same stamps, directions, IDs, channels and bytes, in house spelling.
+use Prim.Native.Nat.{ℕ, _+_, _*_, _%_, _≤_, _<_}
+use mathlib.Core.Path.{_≡_, refl, ap, sym, _∙_}
+use mathlib.Core.Logic.{_⊎_, inl, inr}
+use mathlib.Core.List.{List, [], _∷_, _++_}
+use native.Mathlib.Omega.{arith}
+use lib.ListN.{length, take, drop}
+use lib.Seq.{take-at}
+use Rattle.base.proofs.Numbers.{below-or-not}
+use Rattle.clock.specs.declared.DateTime.{DateTime}
+use Rattle.clock.specs.Start.{startLimit}
+use Rattle.clock.specs.Stamp.{Stamp}
+use Rattle.record.specs.declared.Record.{Record}
+use Rattle.record.specs.Record.{WellFormed}
+use Rattle.records.specs.Records.{Each, none, more, packed, Whole, PacksAll}
+use Rattle.records.proofs.Packing.{packed-length}
+use Rattle.fields.specs.Columns.{lastNumber}
+use Rattle.ascii_line.specs.Line.{lineText}
+use Rattle.ascii.specs.Promise.{exportNumbers, channelOf, lineOf, Exports, lineCount, leftCount, Given, ExportPromise}
+use Rattle.ascii.specs.Promise as export
+use Rattle.ascii.specs.declared.Exported.the-variants as exported
+use Rattle.ascii.proofs.Answers.{one-export}
+use Rattle.ascii.proofs.Channels.{own-channel}
+use Rattle.ascii.proofs.Exporting.{frame-line, counts-sum}
+use Rattle.ascii_line_reader.specs.AsciiLine.{instant, AsciiLine}
+use Rattle.ascii_line_reader.proofs.House.{houseLine, house-line, house-inside, house-text}
+use Rattle.ascii_line_reader.proofs.Theorems.{line-formed, line-ticks}
+use Rattle.ascii_reader.specs.Text.{EndedLine, Lines, over, line, FirstStart, no-lines, cut, SpellsAscii, Respelled}
+use Rattle.ascii_reader.specs.Text
+use Rattle.ascii_reader.specs.Promise.{ReadAsciiPromise, large, refused, many, no-room, done}
+use Rattle.ascii_reader.proofs.Stops.{refused-numbers}
+use Rattle.ascii_reader.proofs.OwnLines.{onChannel, own-ended, own-line}
+
+-- The stamp of a line is the one that its start and offset give.
+line-stamp : {start : ℕ} {s : DateTime} {r : Record} {l : List ℕ} → AsciiLine s r l → instant s ≡ start * 1000 + r .offset → Stamp start (r .offset) s
+line-stamp a e =
+    let x = a .stamp .exists in
+    let t = x .time in
+    record { time = record { low = omega arith; high = omega arith; hour = t .hour; minute = t .minute; second = t .second; part = t .part }; date = x .date }
+
+-- A line of its own channel is the line of its record.
+own-bus : {s : DateTime} {r : Record} {l : List ℕ} → AsciiLine s r l → channelOf (r .bus) ≡ r .bus
+own-bus {r = r} a = own-channel (r .bus) (λ e. omega (arith, a .frame .first-channel))
+
+-- What was read exports to some text, which has the same values, and is read as the same start and records.
+pub record Returned (start : ℕ) (rs : List Record) (text : List ℕ) : Type 0 where
+  pub out : List ℕ
+  pub exports : Exports start rs out
+  pub respelled : Respelled text out
+  pub lines : Lines start rs out
+
+returned : {start : ℕ} {rs : List Record} {text : List ℕ} → Lines start rs text → Returned start rs text
+returned over = record { out = []; exports = export.none; respelled = Text.Respelled.over; lines = over }
+returned {start} (line {s = s} {r = r} {rs = rs} {text = text} f a e h ls) =
+    let x = returned ls in
+    let t = line-stamp a e in
+    let m = line-ticks a in
+    let w = line-formed a h in
+    let b : start * 1000 + r .offset < 8640000000000000 = omega arith in
+    let k = a .frame .kind in
+    let q = own-bus a in
+    let y : lineOf s r ≡ lineText s (r .bus) r = ap (λ (n : ℕ). lineText s n r) q in
+    let z : onChannel r ≡ r = λ i. record { offset = r .offset; bus = q i; kind = r .kind; extended = r .extended; id = r .id; len = r .len; «data» = r .«data» } in
+    record {
+      out = lineOf s r ++ x .out;
+      exports = export.line k t (x .exports);
+      respelled = rw y (Text.Respelled.line f a (x .respelled));
+      lines = line (rw z at (own-ended w k t b (x .out))) (rw z at (own-line w k t b)) e h (x .lines);
+    }
+
+-- Every record that was read gives a line, and is well formed.
+
+frames : {start : ℕ} {rs : List Record} {text : List ℕ} → Lines start rs text → lineCount rs ≡ length rs
+unfolding lineCount
+frames over = refl
+frames (line {r = r} f a e h ls) = rw (frame-line r (a .frame .kind), frames ls) (omega arith)
+
+none-left : {start : ℕ} {rs : List Record} {text : List ℕ} → Lines start rs text → leftCount rs ≡ 0
+none-left {rs = rs} ls = omega (arith, counts-sum rs, frames ls)
+
+all-formed : {start : ℕ} {rs : List Record} {text : List ℕ} → Lines start rs text → Each WellFormed rs
+all-formed over = none
+all-formed (line f a e h ls) = more (line-formed a h) (all-formed ls)
+
+-- The start is one that a trace may have.
+start-within : {start : ℕ} {rs : List Record} {text : List ℕ} → SpellsAscii start rs text → start ≤ startLimit
+start-within s = go (s .first) (s .lines)
+  where
+    go : {start : ℕ} {rs : List Record} {text : List ℕ} → FirstStart start rs → Lines start rs text → start ≤ startLimit
+    go (no-lines z) over = omega arith
+    go (cut o) (line f a e h ls) = omega (arith, line-ticks a)
+
+-- So what was read is refused by no export, but for room.
+pub read-given : {start : ℕ} {rs : List Record} {text : List ℕ} → SpellsAscii start rs text → length rs ≤ lastNumber
+    → (x : Returned start rs text) × Given start (packed rs) rs (x .out)
+read-given {rs = rs} s h =
+    let x = returned (s .lines) in
+    let n = packed-length rs in (
+      x,
+      record {
+        whole = record { twenties = omega arith; few = omega arith };
+        limit = start-within s;
+        packs = record { formed = all-formed (s .lines); bytes = refl };
+        exports = x .exports;
+      },
+    )
+
+-- What an export of it gives, whatever exports: the same values line by line, as many lines as records and none left out; or no room for them.
+pub data ExportsBack (text old : List ℕ) (start n : ℕ) (a new : List ℕ) : Type 0 where
+  written : {rs : List Record} {out : List ℕ} → Respelled text out → SpellsAscii start rs out → a ≡ exportNumbers (exported.Done (length out) n 0)
+      → new ≡ out ++ drop (length out) old → ExportsBack text old start n a new
+  no-space : {out : List ℕ} → Respelled text out → length old < length out → a ≡ exportNumbers (exported.Refused 25 0) → new ≡ old
+      → ExportsBack text old start n a new
+
+exports-back : {start n : ℕ} {rs : List Record} {text old a new : List ℕ} → SpellsAscii start rs text → length rs ≤ lastNumber → n ≡ length rs
+    → ExportPromise start (packed rs) old a new → ExportsBack text old start n a new
+exports-back {start} {n} {rs} {text} {old} {a} {new} s h e p =
+    let x = read-given s h in
+    go x (below-or-not (length old) (length (x .0 .out)))
+  where
+    go : (x : (y : Returned start rs text) × Given start (packed rs) rs (y .out)) → (length old < length (x .0 .out)) ⊎ (length (x .0 .out) ≤ length old)
+        → ExportsBack text old start n a new
+    go x (inl l) = let q = one-export p (export.no-room (x .1) l refl refl) in no-space (x .0 .respelled) l (q .0) (q .1)
+    go x (inr l) =
+        let q = one-export p (export.done (x .1) l refl refl) in
+        let c = frames (s .lines) in
+        let z = none-left (s .lines) in
+        written (x .0 .respelled) (record { first = s .first; lines = x .0 .lines }) (q .0 ∙ cc) (q .1)
+
+-- A refusal is told from an answer by its number.
+other : {n b c d : ℕ} {t : List ℕ} → 0 ∷ b ∷ c ∷ d ∷ [] ≡ n ∷ t → 0 < n → ⊥
+other {n} e h = let z : 0 ≡ n = cc in omega arith
+
+told : {a b m n : ℕ} → 0 ∷ 0 ∷ a ∷ n ∷ [] ≡ 0 ∷ 0 ∷ b ∷ m ∷ [] → (a ≡ b) × (n ≡ m)
+told e = (cc, cc)
+
+-- The order's sentence, over the promises: what `read_ascii` handed out, exported with its start, by any program.
+pub export-of-read : {start n : ℕ} {text before after old a new : List ℕ} → ReadAsciiPromise text before (0 ∷ 0 ∷ start ∷ n ∷ []) after
+    → ExportPromise start (take (20 * n) after) old a new → ExportsBack text old start n a new
+export-of-read (large l e q) p = absurd (other e (omega arith))
+export-of-read (refused l f e q) p = absurd (other e (omega (arith, refused-numbers f .0)))
+export-of-read (many l s m e q) p = absurd (other e (omega arith))
+export-of-read (no-room l s m r e q) p = absurd (other e (omega arith))
+export-of-read {n = n} {before = before} {after = after} (done {start = b} {rs = rs} l s m r e q) p =
+    let i = told e in
+    let z : take (20 * n) after ≡ packed rs = rw (q, i .1) (take-at (packed rs) (drop (20 * length rs) before) (20 * length rs) (packed-length rs)) in
+    exports-back (rw (← (i .0)) at s) m (i .1) (rw z at p)

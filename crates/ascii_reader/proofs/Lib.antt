@@ -1,0 +1,12 @@
+pub mod Answers
+pub mod Ends
+pub mod Exactly
+pub mod Filling
+pub mod Judging
+pub mod One
+pub mod Place
+pub mod Stops
+pub mod UpTo
+pub mod Windows
+pub mod OwnLines
+pub mod Back

@@ -1,0 +1,138 @@
+-- Our own lines are such lines: what `export` wrote is never refused with 31, up to day 99,999.
+use Prim.Native.Nat.{ℕ, _+_, _*_, _≤_, _<_}
+use mathlib.Core.Path.{_≡_, refl, ap, sym, _∙_}
+use mathlib.Core.Logic.{_≢_, inl}
+use mathlib.Core.List.{List, [], _∷_, _++_, append-assoc}
+use native.Mathlib.Omega.{arith}
+use native.Mathlib.Decide.{ℕ-discrete}
+use lib.ListN.{length, take, drop, length-append}
+use lib.Seq.{take-at}
+use Rattle.clock.specs.declared.DateTime.{DateTime}
+use Rattle.clock.specs.Stamp.{ticks, Stamp}
+use Rattle.record.specs.declared.Record.{Record}
+use Rattle.record.specs.Record.{WellFormed}
+use Rattle.record.proofs.Frames.{frame-formed}
+use Rattle.records.specs.Records.{Each, none, more, PacksAll}
+use Rattle.ascii_line.specs.Line.{idDigits, lineText}
+use Rattle.ascii.specs.Promise.{channelOf, lineOf, Exports, ExportPromise}
+use Rattle.ascii.specs.Promise
+use Rattle.ascii.proofs.Answers.{stopped-number}
+use Rattle.ascii.proofs.Channels.{first-channel, own-channel, channel-most}
+use Rattle.ascii.proofs.Exporting.{exports-line, export-most}
+use Rattle.ascii_line_reader.specs.AsciiLine.{instant, StampFits, FrameFits, AsciiLine}
+use Rattle.ascii_line_reader.proofs.House.{houseLine, house-text, house-line, house-inside}
+use Rattle.ascii_reader.specs.Text.{EndedLine, Lines}
+use Rattle.ascii_reader.specs.Text
+use Rattle.ascii_reader.specs.Promise.{NextStamp, AsciiRefusedAt, no-line, ReadAsciiPromise}
+use Rattle.ascii_reader.specs.Promise as read
+use Rattle.ascii_reader.proofs.Ends.{ended-one, ended-none, ended-more}
+
+-- A stamp up to day 99,999, whichever start and offset it is of.
+pub stamp-fits : {start offset : ℕ} {s : DateTime} → Stamp start offset s → start * 1000 + offset < 8640000000000000 → StampFits s
+stamp-fits s h =
+    let t = s .time in
+    record {
+      exists = record { time = record { low = omega arith; high = omega arith; hour = t .hour; minute = t .minute; second = t .second; part = t .part }; date = s .date };
+      last = omega arith;
+    }
+
+-- The record on its channel: bus 0 is written as channel 1.
+abbrev pub onChannel : Record → Record
+onChannel r =
+    record {
+      offset = r .offset;
+      bus = channelOf (r .bus);
+      kind = r .kind;
+      extended = r .extended;
+      id = r .id;
+      len = r .len;
+      «data» = r .«data»;
+    }
+
+channel-low : (bus : ℕ) → 1 ≤ channelOf bus
+channel-low bus = go (ℕ-discrete bus 0)
+  where
+    go : Dec (bus ≡ 0) → 1 ≤ channelOf bus
+    go (yes e) = rw (first-channel bus e) (omega arith)
+    go (no n) = rw (own-channel bus n) (omega arith)
+
+-- The line of a record, as it is exported, is such a line.
+module _ {start : ℕ} {r : Record} {s : DateTime} (w : WellFormed r) (k : r .kind ≤ 1) (t : Stamp start (r .offset) s)
+    (h : start * 1000 + r .offset < 8640000000000000) where
+  fits : FrameFits (onChannel r)
+  fits = record {
+    first-channel = channel-low (r .bus);
+    last-channel = channel-most (r .bus) (w .bus);
+    kind = k;
+    extended = w .extended;
+    standard = w .standard;
+    id = omega (arith, w .id);
+    len = w .len;
+  }
+
+  formed : WellFormed (onChannel r)
+  formed = frame-formed (onChannel r) (omega arith) (w .offset) (channel-most (r .bus) (w .bus)) (w .extended) (w .standard) (w .id) (w .len) (w .eight) (w .past) (w .remote)
+
+  pub own-line : AsciiLine s (onChannel r) (houseLine s (onChannel r))
+  own-line = house-line (stamp-fits t h) fits formed
+
+  same-text : lineOf s r ≡ lineText s (channelOf (r .bus)) (onChannel r)
+  unfolding lineText idDigits
+  same-text = refl
+
+  pub own-ended : (rest : List ℕ) → EndedLine (houseLine s (onChannel r)) rest (lineOf s r ++ rest)
+  own-ended rest =
+      let e = same-text ∙ house-text s (onChannel r) in
+      let m = export-most (more w none) (exports-line k t) in
+      record {
+        inside = house-inside (stamp-fits t h) fits formed;
+        short = omega (arith, ap length e ∙ length-append (houseLine s (onChannel r)) (13 ∷ 10 ∷ []));
+        ended = inl (ap (λ (x : List ℕ). x ++ rest) e ∙ append-assoc (houseLine s (onChannel r)) (13 ∷ 10 ∷ []) rest);
+      }
+
+-- A text of such lines alone.
+pub data SuchLines : List ℕ → Type 0 where
+  over : SuchLines []
+  line : {s : DateTime} {r : Record} {l rest text : List ℕ} → EndedLine l rest text → AsciiLine s r l → SuchLines rest → SuchLines text
+
+-- The stamp of a record lies before day 100,000.
+abbrev pub Dated : ℕ → Record → Type 0
+Dated start r = start * 1000 + r .offset < 8640000000000000
+
+pub own-lines : {start : ℕ} {rs : List Record} {text : List ℕ} → Each WellFormed rs → Each (Dated start) rs → Exports start rs text → SuchLines text
+own-lines none none Promise.none = over
+own-lines (more w ws) (more h hs) (Promise.line {text = text} k t x) = line (own-ended w k t h text) (own-line w k t h) (own-lines ws hs x)
+own-lines (more w ws) (more h hs) (Promise.left k x) = own-lines ws hs x
+
+-- Behind lines that were read such lines follow.
+behind : {start : ℕ} {rs : List Record} {front text : List ℕ} (rest : List ℕ) → Lines start rs front → SuchLines text → text ≡ front ++ rest → SuchLines rest
+behind rest Text.over x e = rw e at x
+behind rest (Text.line {rest = tail} f a i o ls) over e = absurd (ended-none (rw (← e) at (ended-more rest f)) refl)
+behind rest (Text.line {rest = tail} f a i o ls) (line g b x) e = behind rest ls x (ended-one g (rw (← e) at (ended-more rest f)) .1)
+
+pub never-31 : {text : List ℕ} {p : ℕ} → SuchLines text → AsciiRefusedAt text 31 p → ⊥
+never-31 x (no-line u n f) = go (behind _ (u .spelled .lines) x (u .whole)) n f
+  where
+    go : {rest : List ℕ} → SuchLines rest → rest ≢ [] → ((s : DateTime) → NextStamp s rest → ⊥) → ⊥
+    go over n f = n refl
+    go (line {s = s} {r = r} g b y) n f = f s (record { line = _; after = _; there = g; r = r; is = b })
+
+number : {n m : ℕ} {s t : List ℕ} → n ∷ s ≡ m ∷ t → n ≡ m
+number e = cc
+
+-- Over the promises: what any export wrote, from records up to day 99,999, no reading refuses with 31.
+pub own-export : {start n l k p : ℕ} {s before after old new : List ℕ} → ExportPromise start s before (0 ∷ 0 ∷ n ∷ l ∷ k ∷ []) after
+    → ((rs : List Record) → PacksAll rs s → Each (Dated start) rs) → ReadAsciiPromise (take n after) old (31 ∷ p ∷ 0 ∷ 0 ∷ []) new → ⊥
+own-export (Promise.refused f e q) d r = let z = number e in omega (arith, stopped-number f)
+own-export (Promise.no-room g m e q) d r = let z = number e in omega arith
+own-export {n = n} {before = before} {after = after} (Promise.done {rs = rs} {text = text} g m e q) d r =
+    let i : n ≡ length text = cc (e) in
+    let z : take n after ≡ text = rw (q, i) (take-at text (drop (length text) before) (length text) refl) in
+    go (own-lines (g .packs .formed) (d rs (g .packs)) (g .exports)) (rw z at r)
+  where
+    go : {text old new : List ℕ} {p : ℕ} → SuchLines text → ReadAsciiPromise text old (31 ∷ p ∷ 0 ∷ 0 ∷ []) new → ⊥
+    go x (read.large l e q) = let z = number e in omega arith
+    go x (read.refused l f e q) = let z = number e in never-31 x (rw (← z) at f)
+    go x (read.many l s m e q) = let z = number e in omega arith
+    go x (read.no-room l s m r e q) = let z = number e in omega arith
+    go x (read.done l s m r e q) = let z = number e in omega arith
