@@ -2,6 +2,8 @@
 // The answer goes to the caller's array, as the numbers of paper 01. In words: docs/FORMAT.md, section 11.
 use ascii::Exported;
 use ascii::export;
+use ascii_reader::AsciiRead;
+use ascii_reader::read_ascii;
 use explain::Explained;
 use explain::explain;
 use record::Packed;
@@ -18,6 +20,7 @@ ghost use Rattle.record.specs.Record.{recordOf};
 ghost use Rattle.trace.specs.Promise.{ReadPromise};
 ghost use Rattle.trace_writer.specs.Promise.{WritePromise};
 ghost use Rattle.ascii.specs.Promise.{ExportPromise};
+ghost use Rattle.ascii_reader.specs.Promise.{ReadAsciiPromise};
 ghost use Rattle.explain.specs.Promise.{ExplainPromise};
 
 // Number, place, version (11 or 12), start, rows, first step back, first number.
@@ -129,6 +132,22 @@ pub extern "C" fn bo_export(start: u64, records: &[u8], out: &mut [u8], answer: 
         }
         Exported::Refused { number, place } => {
             *answer = [number, place, 0, 0, 0];
+        }
+    }
+}
+
+// Number, place, start, records.
+#[no_mangle]
+pub extern "C" fn bo_read_ascii(text: &[u8], out: &mut [u8], answer: &mut [u64; 4])
+    ensures { λ _. ⌜ ReadAsciiPromise (now (text .entry)) (now (out .entry)) (now (answer .exit)) (now (out .exit)) ⌝ }
+{
+    let a = read_ascii(text, out);
+    match a {
+        AsciiRead::Done { start, records } => {
+            *answer = [0, 0, start, records];
+        }
+        AsciiRead::Refused { number, place } => {
+            *answer = [number, place, 0, 0];
         }
     }
 }
