@@ -2,7 +2,7 @@
 """The output that cases must give: reads the cases in its file stdin, judges each by the papers, and sees that the cases which they name are among them,
 with answers that were taken from them by hand."""
 import sys
-import ascii_lines, clock, digits, explain, inputs, records, rows, traces
+import ascii_lines, clock, digits, explain, inputs, read_ascii, records, rows, traces
 from template import fill, plain, shown
 
 def value(word):
@@ -40,6 +40,20 @@ def row(text, version, number):
 # Explaining
 
 def explained(text, version, number): return numbers(explain.explain(text, version, number))
+
+# Reading lines of Telemotive ASCII back
+
+def ascii_read(text, room):
+    four, found = read_ascii.read(text, room)
+    packed = b''.join(map(records.bits, found)).hex()
+    return numbers(four) + ('' if four[0] else ' ' + packed) + ' untouched'
+
+def returned(text, room):
+    (number, _, start, _), found = read_ascii.read(text, 700)
+    if number: return 'none'
+    s = b''.join(map(records.bits, found))
+    number, _, made, *_ = ascii_lines.export(start, s, room)
+    return exported(start, s, room) + ('' if number else ' ' + ascii_read(made.encode(), 240))
 
 # One record, and one row
 
@@ -119,6 +133,7 @@ ARMS = {
     'start': (1, lambda text, days: str(clock.start(days, text))), 'fraction': (1, fraction),
     'date': (1, lambda text, days: numbers(clock.day(days))), 'stamp': (2, lambda text, start, offset: numbers(clock.stamp(start, offset))),
     'explain': (2, explained), 'begin': (3, lambda text, version, number, count: explained(text[:count], version, number)),
+    'ascii': (1, ascii_read), 'part': (2, lambda text, room, count: ascii_read(text[:count], room)), 'return': (1, returned),
     'convert': (2, converted), 'long': (1, long), 'noise': (3, noise),
 }
 
@@ -137,9 +152,10 @@ for family in open(sys.argv[1], encoding='ascii').read().split('\n'):
     for n in range(int(first), int(last) + 1):
         lines.append(shown(fill(line, n, '%')) + ' -> ' + answer(fill(line, n, plain(given, n))))
 
-# The paper's small trace, its limits, the errors that look right, what Order 1 says of a line, and Order 3 of first numbers: how these lines begin. The
-# answers are the papers'; where they print none, as for the start near a half (3,160,952,640,065.49984 before rounding), for the bits of a record, for the
-# fields of Order 1 and for the bytes of Order 3, they were worked out by hand.
+# The paper's small trace, its limits, the errors that look right, what Order 1 says of a line, Order 3 of first numbers, and Order 4 of lines that are read
+# back: how these lines begin. The answers are the papers'; where they print none, as for the start near a half (3,160,952,640,065.49984 before rounding), for
+# the bits of a record, for the fields of Order 1, for the bytes of Order 3 and for the starts and offsets of Order 4 (10^14 is 5AF3107A4000), they were worked
+# out by hand.
 
 PAPER = r'''
 read room 100 small trace: %1) 0.000 1 Rx 0123 2 0A FF\r\n2) 1500.250 2 Tx 18AB0001 0\r\n3) 1500.249 1 Rx 0124 3 RTR\r\n -> 0 0 12 3160987200000 3 3 1 000000000000080000048c82bfc0000000000000
@@ -250,8 +266,86 @@ explain version 12 number 0: 4117)\r0.000 1 Rx 0123 0 -> 30 0 0 0
 explain version 11 number 999999: 999999) 0.0 Rx 0123 0 -> 30 0 0 0
 explain version 11 number 999999: 999998) 0.0 Rx 0123 0 -> 0 0 1 1
 explain version 11 number 1000000: 1000000) 0.0 Rx 0123 0 -> 30 0 0 0
+ascii room 100 small trace: % -> 0 0 3160987200000 2 000000000000080000048c82bfc000000000000000000016e42811e2ac0004000000000000000000 untouched
+return room 300 small trace: % -> 0 0 111 2 0 29.02.2000 12:00:00.0000 CAN #1 | Rx 123 2 0a ff\r\n29.02.2000 12:00:01.5002 CANExt #2 | EXTENDED Tx 18ab0001 0\r\n untouched 0 0 3160987200000 2 000000000000080000048c82bfc000000000000000000016e42811e2ac0004000000000000000000 untouched
+return room 110 small trace: % -> 25 0 untouched
+return room 300 LF: 29.02.2000 12:00:00.0000 CAN #1 | Rx 123 2 0a ff\n29.02.2000 12:00:01.5002 CANExt #2 | EXTENDED Tx 18ab0001 0\n -> 0 0 111 2 0 29.02.2000 12:00:00.0000 CAN #1 | Rx 123 2 0a ff\r\n29.02.2000 12:00:01.5002 CANExt #2 | EXTENDED Tx 18ab0001 0\r\n untouched
+part room 100 bytes 0: % -> 0 0 0 0  untouched
+part room 100 bytes 49: % -> 31 1 0 0 untouched
+part room 100 bytes 50: % -> 0 0 3160987200000 1 000000000000080000048c82bfc0000000000000 untouched
+part room 100 bytes 51: % -> 31 2 0 0 untouched
+part room 100 bytes 110: % -> 31 2 0 0 untouched
+ascii room 19 one line: 29.02.2000 12:00:00.0000 CAN #1 | Rx 123 2 0a ff\r\n -> 8 0 0 0 untouched
+ascii room 20 one line: 29.02.2000 12:00:00.0000 CAN #1 | Rx 123 2 0a ff\r\n -> 0 0 3160987200000 1 000000000000080000048c82bfc0000000000000 untouched
+ascii room 39 small trace: % -> 8 0 0 0 untouched
+ascii room 0 no lines:  -> 0 0 0 0  untouched
+return room 0 no lines:  -> 0 0 0 0 0  untouched 0 0 0 0  untouched
+ascii room 0 a line that is none comes before a short room: 29.02.2000 12:00:00.0000 CAN #1 | Rx 123 2 0a ff\r\nx\r\n -> 31 2 0 0 untouched
+ascii room 100 not ended: % 2 0a ff -> 31 1 0 0 untouched
+ascii room 100 ended by CR: % 2 0a ff\r -> 31 1 0 0 untouched
+ascii room 100 ended by CR CR LF: % 2 0a ff\r\r\n -> 31 1 0 0 untouched
+ascii room 100 an LF alone: \n -> 31 1 0 0 untouched
+ascii room 100 second line empty: % 0\n\n% 0\n -> 31 2 0 0 untouched
+ascii room 100 0 blanks behind the date: 29.02.200012:00:00.0000 CAN #1 | Rx 123 2 0a ff\r\n -> 31 1 0 0 untouched
+ascii room 100 2 blanks behind the date: 29.02.2000  12:00:00.0000 CAN #1 | Rx 123 2 0a ff\r\n -> 0 0 3160987200000 1 000000000000080000048c82bfc0000000000000 untouched
+ascii room 100 1 blanks at the start:  29.02.2000 12:00:00.0000 CAN #1 | Rx 123 2 0a ff\r\n -> 31 1 0 0 untouched
+ascii room 100 1 blanks at the end: 29.02.2000 12:00:00.0000 CAN #1 | Rx 123 2 0a ff \r\n -> 31 1 0 0 untouched
+ascii room 100 1 blanks between # and the channel: 29.02.2000 12:00:00.0000 CAN # 1 | Rx 123 0\r\n -> 31 1 0 0 untouched
+ascii room 100 no blank before the bar: % CAN #1| Rx 123 0\r\n -> 31 1 0 0 untouched
+ascii room 100 tab behind the date: 29.02.2000\x0912:00:00.0000 CAN #1 | Rx 123 2 0a ff\r\n -> 31 1 0 0 untouched
+ascii room 100 can for CAN: % can #1 | Rx 123 0\r\n -> 31 1 0 0 untouched
+ascii room 100 CANEXT for CANExt: % CANEXT #1 | EXTENDED Rx 00000123 0\r\n -> 31 1 0 0 untouched
+ascii room 100 Extended for EXTENDED: % CANExt #1 | Extended Rx 00000123 0\r\n -> 31 1 0 0 untouched
+ascii room 100 RX for Rx: % CAN #1 | RX 123 0\r\n -> 31 1 0 0 untouched
+ascii room 100 EXTENDED with CAN and eight digits: % CAN #1 | EXTENDED Rx 00000123 0\r\n -> 31 1 0 0 untouched
+ascii room 100 CANExt without EXTENDED and eight digits: % CANExt #1 | Rx 00000123 0\r\n -> 31 1 0 0 untouched
+ascii room 100 Tx: % CAN #1 | Tx 123 0\r\n -> 0 0 3160987200000 1 000000000000090000048c000000000000000000 untouched
+ascii room 100 channel 0: % CAN #0 | Rx 123 0\r\n -> 31 1 0 0 untouched
+ascii room 100 channel 16: % CAN #16 | Rx 123 0\r\n -> 0 0 3160987200000 1 000000000000800000048c000000000000000000 untouched
+ascii room 100 channel 17: % CAN #17 | Rx 123 0\r\n -> 31 1 0 0 untouched
+ascii room 100 channel 1 with a zero before: % CAN #01 | Rx 123 0\r\n -> 31 1 0 0 untouched
+ascii room 100 standard ID 7FF: % CAN #1 | Rx 7FF 0\r\n -> 0 0 3160987200000 1 0000000000000800001ffc000000000000000000 untouched
+ascii room 100 standard ID 800: % CAN #1 | Rx 800 0\r\n -> 31 1 0 0 untouched
+ascii room 100 standard ID 0123: % CAN #1 | Rx 0123 0\r\n -> 31 1 0 0 untouched
+ascii room 100 extended ID 00000123: % CANExt #1 | EXTENDED Rx 00000123 0\r\n -> 0 0 3160987200000 1 000000000000088000048c000000000000000000 untouched
+ascii room 100 extended ID 1fffffff: % CANExt #1 | EXTENDED Rx 1fffffff 0\r\n -> 0 0 3160987200000 1 00000000000008fffffffc000000000000000000 untouched
+ascii room 100 extended ID 20000000: % CANExt #1 | EXTENDED Rx 20000000 0\r\n -> 31 1 0 0 untouched
+ascii room 100 length 8: % CAN #1 | Rx 123 8 01 02 03 04 05 06 07 08\r\n -> 0 0 3160987200000 1 000000000000080000048e004080c1014181c200 untouched
+ascii room 100 length 9: % CAN #1 | Rx 123 9 01 02 03 04 05 06 07 08 09\r\n -> 31 1 0 0 untouched
+ascii room 100 length 8 and 7 bytes: % CAN #1 | Rx 123 8 01 02 03 04 05 06 07\r\n -> 31 1 0 0 untouched
+ascii room 100 length 2 and one byte more: % CAN #1 | Rx 123 2 01 02 00\r\n -> 31 1 0 0 untouched
+ascii room 100 length 1 with a zero before: % CAN #1 | Rx 123 01 01\r\n -> 31 1 0 0 untouched
+ascii room 100 byte a: % CAN #1 | Rx 123 1 a\r\n -> 31 1 0 0 untouched
+ascii room 100 RTR with length 0: % CAN #1 | Rx 123 0 RTR\r\n -> 31 1 0 0 untouched
+ascii room 100 29.12.1899: 29.12.1899% -> 31 1 0 0 untouched
+ascii room 100 30.12.1899: 30.12.1899% -> 0 0 43200000 1 000000000000080000048c000000000000000000 untouched
+ascii room 100 29.02.1900: 29.02.1900% -> 31 1 0 0 untouched
+ascii room 100 01.03.1900: 01.03.1900% -> 0 0 5313600000 1 000000000000080000048c000000000000000000 untouched
+ascii room 100 29.02.2001: 29.02.2001% -> 31 1 0 0 untouched
+ascii room 100 29.02.2004: 29.02.2004% -> 0 0 3287217600000 1 000000000000080000048c000000000000000000 untouched
+ascii room 100 29.02.2100: 29.02.2100% -> 31 1 0 0 untouched
+ascii room 100 01.03.2100: 01.03.2100% -> 0 0 6316747200000 1 000000000000080000048c000000000000000000 untouched
+ascii room 100 13.10.2173: 13.10.2173% -> 0 0 8639956800000 1 000000000000080000048c000000000000000000 untouched
+ascii room 100 14.10.2173: 14.10.2173% -> 31 1 0 0 untouched
+ascii room 100 time 23h59m59.9999: 29.02.2000 23:59:59.9999% -> 0 0 3161030399999 1 000000000384080000048c000000000000000000 untouched
+ascii room 100 time 24h00m00.0000: 29.02.2000 24:00:00.0000% -> 31 1 0 0 untouched
+ascii room 100 first stamp of all: 30.12.1899 00:00:00.0000% -> 0 0 0 1 000000000000080000048c000000000000000000 untouched
+ascii room 100 last stamp of all: 13.10.2173 23:59:59.9999% -> 0 0 8639999999999 1 000000000384080000048c000000000000000000 untouched
+ascii room 100 first stamp with 9 tenths of a millisecond: 29.02.2000 12:00:00.0009% -> 0 0 3160987200000 1 000000000384080000048c000000000000000000 untouched
+return room 300 first stamp with 9 tenths of a millisecond: 29.02.2000 12:00:00.0009% -> 0 0 44 1 0 29.02.2000 12:00:00.0009 CAN #1 | Rx 123 0\r\n untouched 0 0 3160987200000 1 000000000384080000048c000000000000000000 untouched
+ascii room 100 second stamp 0.9 ms before, at the start: 29.02.2000 12:00:00.0009%29.02.2000 12:00:00.0000% -> 0 0 3160987200000 2 000000000384080000048c000000000000000000000000000000080000048c000000000000000000 untouched
+ascii room 100 second stamp 0.1 ms before the start: 29.02.2000 12:00:00.0019%29.02.2000 12:00:00.0009% -> 32 2 0 0 untouched
+ascii room 100 offset at the limit: 30.12.1899 00:00:00.0000%02.03.1903 09:46:39.9999% -> 0 0 0 2 000000000000080000048c0000000000000000005af3107a3f9c080000048c000000000000000000 untouched
+ascii room 100 offset past the limit: 30.12.1899 00:00:00.0000%02.03.1903 09:46:40.0000% -> 33 2 0 0 untouched
+ascii room 100 the last stamp of all, at the limit: 13.08.2170 14:13:20.0000%13.10.2173 23:59:59.9999% -> 0 0 8540000000000 2 000000000000080000048c0000000000000000005af3107a3f9c080000048c000000000000000000 untouched
+ascii room 100 31 on a line before the start: 29.02.2000 12:00:00.0000%28.02.2000 12:00:00.0000 CAN #17 | Rx 123 0\r\n -> 31 2 0 0 untouched
+ascii room 100 32 at line 2 before 33 at line 3: 29.02.2000 12:00:00.0000%28.02.2000 12:00:00.0000%29.02.2012 12:00:00.0000% -> 32 2 0 0 untouched
+ascii room 100 33 at line 2 before 32 at line 3: 29.02.2000 12:00:00.0000%29.02.2012 12:00:00.0000%28.02.2000 12:00:00.0000% -> 33 2 0 0 untouched
+ascii room 0 32 before a short room: 29.02.2000 12:00:00.0000%28.02.2000 12:00:00.0000% -> 32 2 0 0 untouched
 '''
 LONG = [r'read room 100 comment with %d x: %%;%s\r\n -> %s' % (x, 'x' * x, said) for x, said in ((249, '0 0 12'), (250, '3 3 0 0 0 0 0'))]
 LONG += ['explain version 12 number 1: 1) 0.000 1 Rx 0123 %d%s -> %s' % (n, ' ' * 232, said) for n, said in ((0, '30 0 0 0'), (9, '0 0 1 6'))]
+LONG += [r'ascii room 100 48 bytes and %d blanks, LF: 29.02.2000 12:00:00.0000 CAN #1 | Rx 123 2 0a %sff\n -> %s' % (n, ' ' * n, said)
+         for n, said in ((202, '0 0 3160987200000 1 000000000000080000048c82bfc0000000000000 untouched'), (203, '31 1 0 0 untouched'))]
 for said in PAPER.strip('\n').split('\n') + LONG: assert any(line.startswith(said) for line in lines), said
 print('\n'.join(lines))

@@ -4,6 +4,7 @@ mod explaining;
 mod inputs;
 mod reading;
 mod records;
+mod returned;
 mod rows;
 mod strings;
 mod time;
@@ -60,6 +61,9 @@ fn of_numbers(word: u64, line: &[u8]) -> bool {
 // Tries a case of a text or of a line, if the word is one.
 fn of_texts(word: u64, line: &[u8]) -> bool {
     if reading::tried(word, line) {
+        return true;
+    }
+    if returned::tried(word, line) {
         return true;
     }
     explaining::tried(word, line)

@@ -35,14 +35,14 @@ fn seven(n: u64, place: u64, version: u64, start: u64, rows: u64, step_back: u64
 }
 
 // How many bytes so many records are; there are few in these cases.
-fn size(rows: u64) -> usize {
+pub(crate) fn size(rows: u64) -> usize {
     if 100 < rows {
         return 0;
     }
     rows as usize * 20
 }
 
-fn packed(out: &[u8], end: usize) {
+pub(crate) fn packed(out: &[u8], end: usize) {
     bytes(front(out, end));
     rest(out, end);
 }

@@ -42,7 +42,7 @@ fn write_into(version: u64, start: u64, first: u64, records: &[u8], out: &mut [u
     }
 }
 
-fn lines(bytes: usize, lines: u64, left_out: u64, out: &[u8]) {
+pub(crate) fn lines(bytes: usize, lines: u64, left_out: u64, out: &[u8]) {
     number(0);
     number(0);
     number(bytes as u64);

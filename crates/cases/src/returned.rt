@@ -1,0 +1,117 @@
+// Cases of reading Telemotive ASCII back.
+use crate::reading::packed;
+use crate::reading::size;
+use crate::records::refused;
+use crate::writing::lines;
+use crate::writing::page;
+use ascii::Exported;
+use ascii_reader::AsciiRead;
+use ascii_reader::read_ascii;
+use testing::before;
+use testing::behind;
+use testing::front;
+use testing::none;
+use testing::number;
+use testing::numbers;
+use testing::rest;
+
+// The words `ascii`, `part` and `return`, in their letters.
+const ASCII: u64 = 0x6173636969;
+
+const PART: u64 = 0x70617274;
+
+const RETURN: u64 = 0x72657475726E;
+
+// Number, place, start and records.
+fn four(n: u64, place: u64, start: u64, records: u64) {
+    number(n);
+    number(place);
+    number(start);
+    number(records);
+}
+
+fn answer(a: AsciiRead, out: &[u8]) {
+    match a {
+        AsciiRead::Done { start, records } => {
+            four(0, 0, start, records);
+            packed(out, size(records));
+        }
+        AsciiRead::Refused { number: n, place } => {
+            four(n, place, 0, 0);
+            rest(out, 0);
+        }
+    }
+}
+
+fn read_into(s: &[u8], out: &mut [u8], room: usize) {
+    if room <= out.len() {
+        let a = read_ascii(s, &mut out[0..room]);
+        answer(a, out);
+    }
+}
+
+// Reads lines into the first `room` bytes of a page.
+fn read(s: &[u8], room: usize) {
+    let mut out = page();
+    read_into(s, &mut out, room);
+}
+
+// Exports records into the first `room` bytes of a page, and reads what is exported.
+fn export_into(start: u64, records: &[u8], out: &mut [u8], room: usize) {
+    if room <= out.len() {
+        let e = ascii::export(start, records, &mut out[0..room]);
+        match e {
+            Exported::Done {
+                bytes,
+                lines: given,
+                left_out,
+            } => {
+                lines(bytes, given, left_out, out);
+                read(front(out, bytes), 240);
+            }
+            Exported::Refused { number: n, place } => refused(n, place, out),
+        }
+    }
+}
+
+fn exported(start: u64, records: &[u8], room: usize) {
+    let mut out = page();
+    export_into(start, records, &mut out, room);
+}
+
+// Reads lines, exports what is read, and reads that.
+fn returned(s: &[u8], room: usize) {
+    let mut records = page();
+    let a = read_ascii(s, &mut records);
+    match a {
+        AsciiRead::Done {
+            start,
+            records: given,
+        } => exported(start, front(&records, size(given)), room),
+        AsciiRead::Refused {
+            number: _,
+            place: _,
+        } => none(),
+    }
+}
+
+// Tries a case of reading lines, if the word is one. The lines stand behind a colon and a blank.
+pub(crate) fn tried(word: u64, line: &[u8]) -> bool {
+    let a = numbers(before(line, b':'), 2, 2);
+    let s = behind(behind(line, b':'), b' ');
+    match word {
+        ASCII => {
+            read(s, a[0] as usize);
+            true
+        }
+        PART => {
+            read(front(s, a[1] as usize), a[0] as usize);
+            true
+        }
+        RETURN => {
+            returned(s, a[0] as usize);
+            true
+        }
+        _ => false,
+    }
+}
