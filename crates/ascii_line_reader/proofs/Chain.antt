@@ -8,7 +8,7 @@ use Rattle.record.specs.declared.Record.{Record}
 use Rattle.fields.specs.declared.Scan.{Scan}
 use Rattle.fields.specs.inner.Window.{Skipped, Starts, Takes}
 use Rattle.ascii_line_reader.specs.declared.FrameRead.{FrameRead}
-use Rattle.ascii_line_reader.specs.inner.Frame.{Left, Found, found, none, Leads}
+use Rattle.ascii_line_reader.specs.inner.Frame.{Found, found, none, Leads}
 use Rattle.ascii_line_reader.proofs.Walk.{part-on, part-off, part-over}
 
 pub record Stage (C : Record → List (List ℕ) → Type 0) (P : ℕ → List ℕ → Type 0) (D : ℕ → Record → List (List ℕ) → Type 0) : Type 0 where

@@ -2,11 +2,10 @@
 use Prim.Native.Nat.{ℕ, suc, _+_, _*_, _-_, _/_, _^_, _≤_, _<_}
 use mathlib.Core.Path.{_≡_, refl, sym, subst}
 use mathlib.Core.Logic.{_≢_}
-use mathlib.Core.List.{List, [], _∷_}
+use mathlib.Core.List.{List}
 use native.Mathlib.Omega.{arith}
 use lib.ListN.{getD, drop}
 use Rattle.digits.specs.Digits.{Hex}
-use Rattle.record.specs.declared.Record.{Record}
 use Rattle.fields.specs.declared.Scan.{Scan}
 use Rattle.fields.specs.inner.Window.{Lined, Skipped, Starts, Takes}
 use Rattle.row.proofs.Data.{byte-fits}

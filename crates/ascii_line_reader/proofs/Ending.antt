@@ -1,19 +1,19 @@
 -- Behind the last data byte: the line ends there, and the record is whole; or it is none.
-use Prim.Native.Nat.{ℕ, _+_, _^_}
+use Prim.Native.Nat.{ℕ, _+_}
 use mathlib.Core.Path.{_≡_, refl, ap, sym, _∙_}
 use mathlib.Core.Logic.{_≢_}
 use mathlib.Core.List.{List, [], _∷_, _++_, append-nil, append-assoc}
 use native.Mathlib.Omega.{arith}
-use lib.ListN.{length, getD, drop}
+use lib.ListN.{getD, drop}
 use Rattle.record.specs.declared.Record.{Record}
-use Rattle.fields.specs.Parted.{Parted, none, blank-first, field}
+use Rattle.fields.specs.Parted.{Parted, none, blank-first}
 use Rattle.fields.specs.inner.Window.{LineBeforeCr}
 use Rattle.fields.proofs.Parts.{only-none}
 use Rattle.fields.proofs.Window.{head-at}
 use Rattle.row.specs.Row.{Nothing, nothing, ByteFields, done}
 use Rattle.row_reader.proofs.Walk.{ends-here}
 use Rattle.ascii_line_reader.specs.declared.FrameRead.{FrameRead}
-use Rattle.ascii_line_reader.specs.inner.Frame.{DataOf, Left, Found, found, Leads}
+use Rattle.ascii_line_reader.specs.inner.Frame.{DataOf, Left, found, Leads}
 use Rattle.ascii_line_reader.specs.inner.Frame.{none as none-found}
 
 -- What has no part is blanks alone.

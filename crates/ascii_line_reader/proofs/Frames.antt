@@ -1,7 +1,6 @@
 -- What stands behind a stamp, as a list of parts and part by part: the same; and one record for its parts, but for the offset.
-use Prim.Native.Nat.{ℕ, _+_, _*_, _^_, _≤_}
-use mathlib.Core.Path.{_≡_, refl, ap, sym, _∙_}
-use mathlib.Core.Logic.{_≢_}
+use Prim.Native.Nat.{ℕ, _+_, _*_, _^_}
+use mathlib.Core.Path.{_≡_, refl, ap}
 use mathlib.Core.List.{List, [], _∷_, _++_}
 use native.Mathlib.Omega.{arith}
 use native.Mathlib.Decide.{ℕ-discrete}
@@ -15,7 +14,7 @@ use Rattle.row.proofs.One.{bytes-one}
 use Rattle.ascii_line.specs.Line.{extendedTexts, directionText, partsWith}
 use Rattle.ascii_line_reader.specs.AsciiLine.{FrameFits}
 use Rattle.ascii_line_reader.specs.inner.Columns.{IdPart}
-use Rattle.ascii_line_reader.specs.inner.Frame.{FromType, from-type, from-channel, from-bar, FromExtended, no-word, word, FromDirection, from-direction, FromId, from-id, from-length}
+use Rattle.ascii_line_reader.specs.inner.Frame.{FromType, from-type, from-channel, from-bar, FromExtended, no-word, word, FromDirection, from-direction, from-id, from-length}
 use Rattle.ascii_line_reader.proofs.Columns.{type-one, channel-one, direction-one, id-one}
 
 extended-texts : {x : ℕ} → x ≡ 1 → extendedTexts x ≡ text "EXTENDED" ∷ []

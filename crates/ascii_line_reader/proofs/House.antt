@@ -1,6 +1,6 @@
 -- The export's own line is such a line.
-use Prim.Native.Nat.{ℕ, zero, suc, _+_, _*_, _-_, _%_, _^_, _≤_, _<_}
-use mathlib.Core.Path.{_≡_, refl, ap, sym, _∙_}
+use Prim.Native.Nat.{ℕ, zero, suc, _+_, _*_, _-_, _^_, _≤_, _<_}
+use mathlib.Core.Path.{_≡_, refl, ap, sym}
 use mathlib.Core.List.{List, [], _∷_, _++_, append-nil, append-assoc}
 use native.Mathlib.Nat.{mod-eq-of-lt}
 use native.Mathlib.Omega.{arith}
@@ -29,9 +29,9 @@ use Rattle.lines.specs.Lines.{Inside}
 use Rattle.row.specs.Row.{Nothing, nothing, ByteFields, done, byte}
 use Rattle.row.proofs.Fields.{Each, no-more, then, each-map, parted-all}
 use Rattle.row.proofs.Spelled.{bytes-spelled}
-use Rattle.ascii_line.specs.Line.{dateText, timeText, stampText, messageTypeText, idDigits, partTexts, lineText}
+use Rattle.ascii_line.specs.Line.{dateText, timeText, messageTypeText, idDigits, partTexts, lineText}
 use Rattle.ascii_line.proofs.Texts.{id}
-use Rattle.ascii_line_reader.specs.AsciiLine.{Tight, Apart, StampFits, FrameFits, LineParts, AsciiLine}
+use Rattle.ascii_line_reader.specs.AsciiLine.{Tight, Apart, StampFits, FrameFits, AsciiLine}
 use Rattle.ascii_line_reader.specs.inner.Columns.{TypePart, ChannelPart, DirectionPart, IdPart}
 use Rattle.ascii_line_reader.specs.inner.Frame.{FromType, from-type, from-channel, from-bar, FromExtended, no-word, word, FromDirection, from-direction, from-id, from-length}
 use Rattle.ascii_line_reader.specs.inner.Answer.{NoIndent}

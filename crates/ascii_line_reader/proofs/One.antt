@@ -1,9 +1,8 @@
 -- Two stamps of the same texts are one, and two records of the same values, but for the offset.
-use Prim.Native.Nat.{ℕ, _+_, _*_, _^_, _≤_, _<_}
-use mathlib.Core.Path.{_≡_, refl, ap, sym, _∙_}
-use mathlib.Core.List.{List, [], _∷_, _++_}
+use Prim.Native.Nat.{ℕ, _+_, _^_, _<_}
+use mathlib.Core.Path.{_≡_, sym, _∙_}
+use mathlib.Core.List.{List, _∷_, _++_}
 use native.Mathlib.Omega.{arith}
-use lib.ListN.{length}
 use Rattle.base.proofs.Lists.{same-cut}
 use Rattle.digits.specs.House.{paddedText}
 use Rattle.digits.proofs.House.{padded-spells}
@@ -22,7 +21,7 @@ padded-one : (w m n : ℕ) → m < 10 ^ w → n < 10 ^ w → paddedText w m ≡ 
 padded-one w m n h k e = one-padded (rw e at (padded-spells w m h)) (padded-spells w n k)
 
 -- Such a number, and what follows a byte behind it.
-next-one : (w m n c : ℕ) {s t : List ℕ} → m < 10 ^ w → n < 10 ^ w → paddedText w m ++ (c ∷ s) ≡ paddedText w n ++ (c ∷ t) → (m ≡ n) × (s ≡ t)
+pub next-one : (w m n c : ℕ) {s t : List ℕ} → m < 10 ^ w → n < 10 ^ w → paddedText w m ++ (c ∷ s) ≡ paddedText w n ++ (c ∷ t) → (m ≡ n) × (s ≡ t)
 next-one w m n c h k e =
     let x = same-cut (paddedText w m) (paddedText w n) e (padded-spells w m h .width ∙ sym (padded-spells w n k .width)) in
     (padded-one w m n h k (x .0), x .2)
@@ -32,7 +31,7 @@ pub record ShortDate (d : CalendarDay) : Type 0 where
   pub month : d .month < 100
   pub year : d .year < 10000
 
-one-date : {d e : CalendarDay} → ShortDate d → ShortDate e → dateText d ≡ dateText e → d ≡ e
+pub one-date : {d e : CalendarDay} → ShortDate d → ShortDate e → dateText d ≡ dateText e → d ≡ e
 unfolding dateText
 one-date {d} {e} h k q =
     let x = next-one 2 (d .day) (e .day) 46 (h .day) (k .day) q in

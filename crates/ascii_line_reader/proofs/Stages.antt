@@ -1,6 +1,6 @@
 -- The parts behind the stamp, each as a stage of the chain.
-use Prim.Native.Nat.{ℕ, zero, suc, _+_, _*_, _-_, _/_, _^_, _≤_, _<_}
-use mathlib.Core.Path.{_≡_, refl, ap, sym, _∙_}
+use Prim.Native.Nat.{ℕ, suc, _+_, _*_, _-_, _/_, _^_, _≤_}
+use mathlib.Core.Path.{_≡_, refl, ap, _∙_}
 use mathlib.Core.Logic.{_≢_}
 use mathlib.Core.List.{List, [], _∷_}
 use native.Mathlib.Nat.{add-assoc}
@@ -11,10 +11,10 @@ use Rattle.digits.proofs.Theorems.{one-hex}
 use Rattle.fields.specs.Columns.{LengthField}
 use Rattle.fields.proofs.Columns.{length-one}
 use Rattle.record.specs.declared.Record.{Record}
-use Rattle.row.specs.Row.{Nothing, nothing, ByteFields, done, byte}
+use Rattle.row.specs.Row.{Nothing, ByteFields, byte}
 use Rattle.ascii_line_reader.specs.declared.FrameRead.{FrameRead}
 use Rattle.ascii_line_reader.specs.inner.Columns.{TypePart, ChannelPart, DirectionPart, IdPart}
-use Rattle.ascii_line_reader.specs.inner.Frame.{FromType, from-type, FromChannel, from-channel, FromBar, from-bar, FromExtended, no-word, word, FromDirection, from-direction, FromId, from-id, FromLength, from-length, ChannelOf, BarOf, ExtendedOf, DirectionOf, IdOf, LengthOf, DataOf, Found, found, none, Leads}
+use Rattle.ascii_line_reader.specs.inner.Frame.{FromType, from-type, from-channel, from-bar, no-word, word, from-direction, from-id, from-length, ChannelOf, BarOf, ExtendedOf, DirectionOf, IdOf, LengthOf, DataOf, Found, found, none, Leads}
 use Rattle.ascii_line_reader.proofs.Columns.{type-one, channel-one, direction-one, id-one}
 use Rattle.ascii_line_reader.proofs.Chain.{Stage}
 

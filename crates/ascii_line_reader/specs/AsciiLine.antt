@@ -1,5 +1,5 @@
 -- What a line of Telemotive ASCII is that is read back: a relation between a stamp, a record and the bytes of a line. The parts are those of the
--- export's own line (ascii_line/specs/Line). In words: docs/FORMAT.md, section 12.
+-- export's own line (ascii_line/specs/Line). In words: docs/FORMAT.md, section 15.
 use Prim.Native.Nat.{ℕ, _+_, _*_, _^_, _≤_}
 use mathlib.Core.Path.{_≡_}
 use mathlib.Core.List.{List, [], _∷_, _++_}

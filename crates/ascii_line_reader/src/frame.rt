@@ -12,6 +12,7 @@ use fields::length_field;
 use fields::skip_in;
 use fields::type_field;
 use record::Record;
+use row::FIRST_PLACE;
 ghost use mathlib.Core.Path.{_≡_};
 ghost use Prim.Native.Nat.{_^_, _≤_, _<_};
 ghost use lib.ListN.{length, drop};
@@ -19,22 +20,13 @@ ghost use Rattle.digits.specs.inner.HexTable.{HexTable};
 ghost use Rattle.fields.specs.Runs.{All};
 ghost use Rattle.fields.specs.inner.Window.{Lined, Solid, Starts, Takes};
 ghost use Rattle.ascii_line_reader.specs.inner.Columns.{TypePart, ChannelPart, DirectionPart, IdPart};
-ghost use Rattle.ascii_line_reader.specs.inner.Frame.{FromType, ChannelOf, BarOf, ExtendedOf, DirectionOf, IdOf, LengthOf, DataOf, Leads};
+ghost use Rattle.ascii_line_reader.specs.inner.Frame.{FromType, ChannelOf, BarOf, ExtendedOf, DirectionOf, IdOf, LengthOf, DataOf, frameOf, Leads};
 
 // No frame.
 pub fn no_frame() -> FrameRead
     ensures { λ x. ⌜ x .end ≡ 0 ⌝ }
 {
-    let r = Record {
-        offset: 0,
-        bus: 0,
-        kind: 0,
-        extended: 0,
-        id: 0,
-        len: 0,
-        data: 0,
-    };
-    FrameRead { end: 0, r }
+    frame_of(0, 0, 0, 0, 0, 0, 0)
 }
 
 // The bytes of a word that is spelled exactly.
@@ -266,8 +258,29 @@ fn frame_length(
     frame_data(w, s.end, hex, extended, bus, kind, id, s.value)
 }
 
-// The place value of the first data byte.
-const FIRST_PLACE: u64 = 0x100_0000_0000_0000;
+// The frame of these values, `eight` being the eight data bytes.
+fn frame_of(
+    end: usize,
+    extended: u64,
+    bus: u64,
+    kind: u64,
+    id: u64,
+    len: u64,
+    eight: u64,
+) -> FrameRead
+    ensures { λ x. ⌜ x ≡ frameOf end extended bus kind id len eight ⌝ }
+{
+    let r = Record {
+        offset: 0,
+        bus,
+        kind,
+        extended,
+        id,
+        len,
+        data: eight,
+    };
+    FrameRead { end, r }
+}
 
 // The data bytes, as many as the length says, to the end of the line.
 fn frame_data(
@@ -304,14 +317,5 @@ fn frame_data(
     if !at_end(w, e) {
         return no_frame();
     }
-    let r = Record {
-        offset: 0,
-        bus,
-        kind,
-        extended,
-        id,
-        len,
-        data,
-    };
-    FrameRead { end: e, r }
+    frame_of(e, extended, bus, kind, id, len, data)
 }

@@ -28,7 +28,7 @@ pub struct LineRead {
 }
 
 // No such line.
-pub fn no_line() -> LineRead
+fn no_line() -> LineRead
     ensures { λ x. ⌜ x .end ≡ 0 ⌝ }
 {
     let f = frame::no_frame();

@@ -1,4 +1,5 @@
-// The stamp of a line: `dd.mm.yyyy`, a gap, `hh:mm:ss.xxxx`.
+// The stamp of a line: `dd.mm.yyyy`, a gap, `hh:mm:ss.xxxx`. As in `fields`, a reader that adds to its place takes the window as a slice first, `bytes`: so a
+// proof learns its length.
 use base::wide;
 use clock::CalendarDay;
 use clock::LAST_DAY;

@@ -1,6 +1,6 @@
 -- Export of what was read: for every accepted text, line by line the same stamps, directions, IDs, channels and bytes, in house spelling.
-use Prim.Native.Nat.{ℕ, _+_, _*_, _%_, _≤_, _<_}
-use mathlib.Core.Path.{_≡_, refl, ap, sym, _∙_}
+use Prim.Native.Nat.{ℕ, _+_, _*_, _≤_, _<_}
+use mathlib.Core.Path.{_≡_, refl, ap, _∙_}
 use mathlib.Core.Logic.{_⊎_, inl, inr}
 use mathlib.Core.List.{List, [], _∷_, _++_}
 use native.Mathlib.Omega.{arith}
@@ -12,7 +12,7 @@ use Rattle.clock.specs.Start.{startLimit}
 use Rattle.clock.specs.Stamp.{Stamp}
 use Rattle.record.specs.declared.Record.{Record}
 use Rattle.record.specs.Record.{WellFormed}
-use Rattle.records.specs.Records.{Each, none, more, packed, Whole, PacksAll}
+use Rattle.records.specs.Records.{Each, none, more, packed}
 use Rattle.records.proofs.Packing.{packed-length}
 use Rattle.fields.specs.Columns.{lastNumber}
 use Rattle.ascii_line.specs.Line.{lineText}
@@ -23,9 +23,8 @@ use Rattle.ascii.proofs.Answers.{one-export}
 use Rattle.ascii.proofs.Channels.{own-channel}
 use Rattle.ascii.proofs.Exporting.{frame-line, counts-sum}
 use Rattle.ascii_line_reader.specs.AsciiLine.{instant, AsciiLine}
-use Rattle.ascii_line_reader.proofs.House.{houseLine, house-line, house-inside, house-text}
 use Rattle.ascii_line_reader.proofs.Theorems.{line-formed, line-ticks}
-use Rattle.ascii_reader.specs.Text.{EndedLine, Lines, over, line, FirstStart, no-lines, cut, SpellsAscii, Respelled}
+use Rattle.ascii_reader.specs.Text.{Lines, over, line, FirstStart, no-lines, cut, SpellsAscii, Respelled}
 use Rattle.ascii_reader.specs.Text
 use Rattle.ascii_reader.specs.Promise.{ReadAsciiPromise, large, refused, many, no-room, done}
 use Rattle.ascii_reader.proofs.Stops.{refused-numbers}
@@ -105,9 +104,10 @@ read-given {rs = rs} s h =
       },
     )
 
--- What an export of it gives, whatever exports: the same values line by line, as many lines as records and none left out; or no room for them.
+-- What an export of it gives, whatever exports: the same values line by line, which spell the same start and records, as many lines as records and
+-- none left out; or no room for them.
 pub data ExportsBack (text old : List ℕ) (start n : ℕ) (a new : List ℕ) : Type 0 where
-  written : {rs : List Record} {out : List ℕ} → Respelled text out → SpellsAscii start rs out → a ≡ exportNumbers (exported.Done (length out) n 0)
+  written : {rs : List Record} {out : List ℕ} → SpellsAscii start rs text → Respelled text out → SpellsAscii start rs out → a ≡ exportNumbers (exported.Done (length out) n 0)
       → new ≡ out ++ drop (length out) old → ExportsBack text old start n a new
   no-space : {out : List ℕ} → Respelled text out → length old < length out → a ≡ exportNumbers (exported.Refused 25 0) → new ≡ old
       → ExportsBack text old start n a new
@@ -125,7 +125,7 @@ exports-back {start} {n} {rs} {text} {old} {a} {new} s h e p =
         let q = one-export p (export.done (x .1) l refl refl) in
         let c = frames (s .lines) in
         let z = none-left (s .lines) in
-        written (x .0 .respelled) (record { first = s .first; lines = x .0 .lines }) (q .0 ∙ cc) (q .1)
+        written s (x .0 .respelled) (record { first = s .first; lines = x .0 .lines }) (q .0 ∙ cc) (q .1)
 
 -- A refusal is told from an answer by its number.
 other : {n b c d : ℕ} {t : List ℕ} → 0 ∷ b ∷ c ∷ d ∷ [] ≡ n ∷ t → 0 < n → ⊥

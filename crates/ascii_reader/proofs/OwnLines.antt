@@ -1,6 +1,6 @@
 -- Our own lines are such lines: what `export` wrote is never refused with 31, up to day 99,999.
 use Prim.Native.Nat.{ℕ, _+_, _*_, _≤_, _<_}
-use mathlib.Core.Path.{_≡_, refl, ap, sym, _∙_}
+use mathlib.Core.Path.{_≡_, refl, ap, _∙_}
 use mathlib.Core.Logic.{_≢_, inl}
 use mathlib.Core.List.{List, [], _∷_, _++_, append-assoc}
 use native.Mathlib.Omega.{arith}
@@ -8,7 +8,7 @@ use native.Mathlib.Decide.{ℕ-discrete}
 use lib.ListN.{length, take, drop, length-append}
 use lib.Seq.{take-at}
 use Rattle.clock.specs.declared.DateTime.{DateTime}
-use Rattle.clock.specs.Stamp.{ticks, Stamp}
+use Rattle.clock.specs.Stamp.{Stamp}
 use Rattle.record.specs.declared.Record.{Record}
 use Rattle.record.specs.Record.{WellFormed}
 use Rattle.record.proofs.Frames.{frame-formed}
@@ -19,7 +19,7 @@ use Rattle.ascii.specs.Promise
 use Rattle.ascii.proofs.Answers.{stopped-number}
 use Rattle.ascii.proofs.Channels.{first-channel, own-channel, channel-most}
 use Rattle.ascii.proofs.Exporting.{exports-line, export-most}
-use Rattle.ascii_line_reader.specs.AsciiLine.{instant, StampFits, FrameFits, AsciiLine}
+use Rattle.ascii_line_reader.specs.AsciiLine.{StampFits, FrameFits, AsciiLine}
 use Rattle.ascii_line_reader.proofs.House.{houseLine, house-text, house-line, house-inside}
 use Rattle.ascii_reader.specs.Text.{EndedLine, Lines}
 use Rattle.ascii_reader.specs.Text

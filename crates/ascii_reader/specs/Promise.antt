@@ -1,4 +1,4 @@
--- What `read_ascii` promises for every text and every output. In words: docs/FORMAT.md, section 12.
+-- What `read_ascii` promises for every text and every output. In words: docs/FORMAT.md, section 15.
 use Prim.Native.Nat.{ℕ, _+_, _*_, _≤_, _<_}
 use mathlib.Core.Path.{_≡_}
 use mathlib.Core.Logic.{_≢_}

@@ -1,4 +1,4 @@
--- What a text of Telemotive ASCII lines means that is read back: a start, and records with offsets from it. In words: docs/FORMAT.md, section 12.
+-- What a text of Telemotive ASCII lines means that is read back: a start, and records with offsets from it. In words: docs/FORMAT.md, section 15.
 use Prim.Native.Nat.{ℕ, _+_, _*_, _≤_, _<_}
 use mathlib.Core.Path.{_≡_}
 use mathlib.Core.Logic.{_⊎_}

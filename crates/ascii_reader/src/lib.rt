@@ -3,7 +3,6 @@ mod window;
 
 use ascii_line_reader::LineRead;
 use ascii_line_reader::line_in;
-use ascii_line_reader::no_line;
 use base::OFFSET_LIMIT;
 use digits::hex_table;
 use fields::LAST_NUMBER;
@@ -70,7 +69,7 @@ fn line_at(text: &[u8], at: usize, from: usize, w: &[u8; WINDOW], hex: &[u8; 256
 {
     let x = line_in(w, at - from, hex);
     if x.end == 0 {
-        return no_line();
+        return x;
     }
     let next = after_end(text, at, from + x.end);
     let r = x.r;

@@ -1,6 +1,6 @@
 // The window that lines are read from. It holds bytes of the text, CR for LF, so that every line ends with CR there, whichever end it has.
 use fields::WINDOW;
-use lines::LINE_LIMIT;
+use trace::ENDED;
 ghost use mathlib.Core.Path.{_≡_};
 ghost use mathlib.Core.List.{_∷_, _++_};
 ghost use Prim.Native.Nat.{_+_, _≤_, _<_};
@@ -9,9 +9,6 @@ ghost use Rattle.base.specs.Text.{cr};
 ghost use Rattle.fields.specs.inner.Window.{windowBytes};
 ghost use Rattle.trace.specs.inner.Passes.{Windowed, Reaches};
 ghost use Rattle.ascii_reader.specs.inner.Ends.{crFor, crForAll};
-
-// How far from the start of a line the next one can stand.
-const ENDED: usize = LINE_LIMIT + 2;
 
 // A byte of the text as the window has it.
 fn cr_for(b: u8) -> u8

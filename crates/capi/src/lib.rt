@@ -1,5 +1,5 @@
 // The boundary to C: each function below as one that C can call, described in `include/bushingowl.h`. A slice is a pointer and then a length.
-// The answer goes to the caller's array, as the numbers of paper 01. In words: docs/FORMAT.md, section 11.
+// The answer goes to the caller's array, as the numbers of paper 01. In words: docs/FORMAT.md, sections 11, 14 and 15.
 use ascii::Exported;
 use ascii::export;
 use ascii_reader::AsciiRead;

@@ -1,4 +1,4 @@
--- The Gregorian calendar: which day, month and year a day count is. In words: docs/FORMAT.md, section 10.
+-- The Gregorian calendar: which day, month and year a day count is. In words: docs/FORMAT.md, sections 10 and 15.
 use Prim.Native.Nat.{ℕ, zero, suc, _+_, _-_, _%_, _≤_}
 use mathlib.Core.Path.{_≡_}
 use mathlib.Core.Bool.{Bool, cond, not, _&&_, _||_}

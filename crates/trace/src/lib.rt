@@ -26,7 +26,7 @@ pub const SIZE_LIMIT: usize = 134_217_728;
 // How far from the start of a line its LF can stand, and the next line.
 const FEED: usize = LINE_LIMIT + 1;
 
-const ENDED: usize = LINE_LIMIT + 2;
+pub const ENDED: usize = LINE_LIMIT + 2;
 
 // The answer of `read`.
 pub enum Outcome {

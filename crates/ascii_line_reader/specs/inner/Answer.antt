@@ -1,4 +1,4 @@
--- What the readers of digits, of a stamp and of a whole line answer. No public promise cites this file.
+-- What the readers of digits, of a stamp and of a whole line answer.
 use Prim.Native.Nat.{ℕ, _+_, _^_}
 use mathlib.Core.Path.{_≡_}
 use mathlib.Core.List.{List, [], _∷_, _++_}

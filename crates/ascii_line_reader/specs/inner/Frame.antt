@@ -69,6 +69,11 @@ DataOf extended bus kind id len place left sum r fs =
     (r .extended ∷ r .bus ∷ r .kind ∷ r .id ∷ r .len ∷ [] ≡ extended ∷ bus ∷ kind ∷ id ∷ len ∷ [])
     × ((u : ℕ) × (r .«data» ≡ sum + u) × ByteFields Nothing place left u fs)
 
+-- What is read of a frame with these values: where it ends, and its record.
+abbrev pub frameOf : ℕ → ℕ → ℕ → ℕ → ℕ → ℕ → ℕ → FrameRead
+frameOf end extended bus kind id len eight =
+    record { end = end; r = record { offset = 0; bus = bus; kind = kind; extended = extended; id = id; len = len; «data» = eight } }
+
 -- What is left of a line, behind its parts up to a place of a window: the line starts at `from`, and no blank stands before that place.
 pub record Left (line w : List ℕ) (from at : ℕ) (fs : List (List ℕ)) : Type 0 where
   pub front : List ℕ

@@ -33,4 +33,5 @@ frame-data-spec =
     (λ c κs. search needs)
     (λ c κs. search needs)
     (λ c. data-left (c .before .before .before .before .loop .inv) (c .before .before .before .loop-test .left) (refuted-not (c .before .before .at-end2 .result) (c .before .before .at-end2 .ensures) (c .before .if3 .taken)) (c .no-frame3 .ensures))
-    (λ c. data-read (c .before .before .before .loop .inv) (c .before .before .loop-test .left) (shown-not (c .before .at-end2 .result) (c .before .at-end2 .ensures) (c .if3 .left))))
+    (λ c κs. search needs)
+    (λ c. rw (c .frame-of .ensures) (data-read (c .before .before .before .before .loop .inv) (c .before .before .before .loop-test .left) (shown-not (c .before .before .at-end2 .result) (c .before .before .at-end2 .ensures) (c .before .if3 .left)))))
