@@ -1,3 +1,4 @@
+pub mod AsciiLines
 pub mod Entry
 pub mod Explaining
 pub mod Exporters
@@ -6,6 +7,7 @@ pub mod Whole
 pub mod Lost
 pub mod Numbers
 pub mod Readers
+pub mod ReadingAscii
 pub mod Real
 pub mod Refusals
 pub mod Refuted
