@@ -3,6 +3,7 @@
 use bushingowl_bench::compare::ascii_limits::ascii_limits;
 use bushingowl_bench::compare::every_ascii::every_ascii;
 use bushingowl_bench::compare::every_field::every_field;
+use bushingowl_bench::compare::every_part::every_part;
 use bushingowl_bench::compare::inputs::one_input;
 use bushingowl_bench::compare::limits::limits;
 use bushingowl_bench::compare::lines::one_row;
@@ -42,7 +43,7 @@ fn main() -> ExitCode {
         return differs("short fields and long lines", &difference);
     }
     println!("lines done, now every part of a line of ASCII");
-    if let Err(difference) = every_ascii(&mut runs) {
+    if let Err(difference) = every_ascii(&mut runs).and_then(|()| every_part(&mut runs)) {
         return differs("every part", &difference);
     }
     println!("parts done, now the size limits");

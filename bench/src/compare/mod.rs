@@ -5,6 +5,7 @@ pub mod ascii_limits;
 mod both;
 pub mod every_ascii;
 pub mod every_field;
+pub mod every_part;
 pub mod inputs;
 pub mod limits;
 pub mod lines;
