@@ -45,7 +45,7 @@ fn date(days: u64) -> (u64, u64, u64) {
 /// The days since 30 December 1899 of a date, if it exists and is not before.
 pub fn days(day: u64, month: u64, year: u64) -> Option<u64> {
     let years = year.checked_sub(1601)?;
-    let leap = year % 4 == 0 && (year % 100 != 0 || year % 400 == 0);
+    let leap = year.is_multiple_of(4) && (!year.is_multiple_of(100) || year.is_multiple_of(400));
     let before = &BEFORE[usize::from(leap)];
     let month = month.checked_sub(1)? as usize;
     let first = before.get(month)?;
