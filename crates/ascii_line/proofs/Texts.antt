@@ -107,8 +107,11 @@ line-cut s n r = rw (frame-cut, stamp-cut, append-assoc)
 
 -- How long the pieces are.
 
-length-date : (d : CalendarDay) → length (dateText d) ≡ 10
+pub length-date : (d : CalendarDay) → length (dateText d) ≡ 10
 length-date d = rw date (simp (length-append, length-fixed))
+
+pub length-time : (t : DayTime) → length (timeText t) ≡ 13
+length-time t = rw time (simp (length-append, length-fixed))
 
 length-clock : (t : DayTime) → length (clockText t) ≡ 9
 length-clock t = rw clock (simp (length-append, length-fixed))
@@ -123,7 +126,7 @@ all-put {old} s h w =
     let v = rw (← second s) at w in
     at-start v (omega arith) ∙ rw (drop-of-length-le old {i = length (secondText s)} (omega arith), append-nil (secondText s))
 
-length-direction : (kind : ℕ) → length (directionText kind) ≡ 2
+pub length-direction : (kind : ℕ) → length (directionText kind) ≡ 2
 unfolding directionText
 length-direction kind = elim (ℕ-discrete kind 0) [ yes e ↦ rw (eq-eqb kind 0 e) | no f ↦ rw (ne-eqb kind 0 f) ]
 

@@ -12,3 +12,4 @@ pub mod Whole
 pub mod One
 pub mod Theorems
 pub mod House
+pub mod Least

@@ -10,3 +10,4 @@ pub mod UpTo
 pub mod Windows
 pub mod OwnLines
 pub mod Back
+pub mod Few

@@ -13,7 +13,7 @@ use Rattle.row.specs.Row
 use Rattle.row.proofs.EachVersion.{digits-some}
 
 -- The bytes of the fields, and a blank behind each.
-abbrev size : List (List ℕ) → ℕ
+abbrev pub size : List (List ℕ) → ℕ
 size [] = 0
 size (f ∷ fs) = length f + 1 + size fs
 
@@ -22,7 +22,7 @@ solid (more n a) (halt h) = h n
 
 -- A line has room for its fields with a blank behind each but the last. A blank in front makes up for that one, and an empty line has no
 -- field.
-parted-size : {fs : List (List ℕ)} {line : List ℕ} → Parted fs line
+pub parted-size : {fs : List (List ℕ)} {line : List ℕ} → Parted fs line
     → (size fs ≤ length line + 1) × (Stops NoBlank line → size fs ≤ length line)
 parted-size none = (omega arith, λ z. omega arith)
 parted-size (blank-first q) = let h = parted-size q in (omega (arith, h .0), λ z. omega (arith, h .0))
@@ -43,7 +43,7 @@ id-size : {extended id : ℕ} {f : List ℕ} → IdField extended id f → 4 ≤
 id-size (standard e h l) = omega (arith, h .width)
 id-size (long e h l) = omega (arith, h .width)
 
-length-size : {len : ℕ} {f : List ℕ} → LengthField len f → 1 ≤ length f
+pub length-size : {len : ℕ} {f : List ℕ} → LengthField len f → 1 ≤ length f
 length-size p = omega (arith, ap length (p .spelled))
 
 -- From the ID on, from the type on, and from the bus on.
