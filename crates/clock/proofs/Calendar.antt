@@ -124,6 +124,13 @@ month-small zero m r h = leb→le _ _ (at (λ (k x : ℕ). leb x 31) 0 (months 0
 month-small (suc zero) m r h = leb→le _ _ (at (λ (k x : ℕ). leb x 31) 0 (months 1) tt m h)
 month-small (suc (suc row)) m r h = absurd (omega arith)
 
+-- And at least 28.
+pub month-long : (row m : ℕ) → row < 2 → m < 12 → 28 ≤ monthDays row m
+unfolding monthDays
+month-long zero m r h = leb→le _ _ (at (λ (k x : ℕ). leb 28 x) 0 (months 0) tt m h)
+month-long (suc zero) m r h = leb→le _ _ (at (λ (k x : ℕ). leb 28 x) 0 (months 1) tt m h)
+month-long (suc (suc row)) m r h = absurd (omega arith)
+
 -- December has 31 days in both kinds of year.
 pub december : (row : ℕ) → monthDays row 11 ≡ 31
 unfolding monthDays

@@ -1,6 +1,7 @@
 // Time, in whole numbers: starts, day fractions, dates and stamps.
 ghost use mathlib.Core.Path.{_≡_};
 ghost use Prim.Native.Nat.{_+_, _*_, _-_, _^_, _≤_, _<_};
+ghost use Rattle.base.specs.inner.Decides.{Decides};
 ghost use Rattle.clock.specs.Start.{dayMs, startLimit, Start, DayFraction};
 ghost use Rattle.clock.specs.Date.{leap, monthDays, before, beforeYear, Date};
 ghost use Rattle.clock.specs.Stamp.{Time, Stamp};
@@ -195,6 +196,20 @@ fn month_days(leap: u64, month: u64) -> u64
     days_before(leap, month + 1) - days_before(leap, month)
 }
 
+// Whether a month has so many days. Each has 28, so that for most days of a month its own are not looked up: the table would be laid out twice more.
+fn in_month(leap: u64, month: u64, day: u64) -> bool
+    requires { ⌜ (leap < 2) × (month < 12) ⌝ }
+    ensures { λ b. ⌜ Decides (day ≤ monthDays leap month) b ⌝ }
+{
+    if day <= 28 {
+        return true;
+    }
+    if month_days(leap, month) < day {
+        return false;
+    }
+    true
+}
+
 // What `day_of` gives in a month of the years from 1899 to 2173. The count is from the beginning of 1899, of which 363
 // days lie before day 0.
 fn day_within(d: CalendarDay) -> u64
@@ -206,7 +221,7 @@ fn day_within(d: CalendarDay) -> u64
     if d.day < 1 {
         return NO_DAY;
     }
-    if d.day > month_days(leap, month) {
+    if !in_month(leap, month, d.day) {
         return NO_DAY;
     }
     let count = days_before_year(d.year) + days_before(leap, month) + (d.day - 1);
