@@ -15,6 +15,7 @@ use Rattle.fields.proofs.Parts.{parted-one, only-none}
 use Rattle.row.proofs.Formed.{bytes-sum}
 use Rattle.ascii_line.specs.Line.{dateText, timeText}
 use Rattle.ascii_line_reader.specs.AsciiLine.{withOffset, AsciiLine}
+use Rattle.ascii_line_reader.specs.inner.Answer.{tickLimit}
 use Rattle.ascii_line_reader.proofs.Frames.{one-frame}
 use Rattle.ascii_line_reader.proofs.One.{one-stamp, same-values}
 use Rattle.ascii_line_reader.proofs.Whole.{line-frame}
@@ -68,5 +69,5 @@ line-some {line = []} a =
 line-some {line = b ∷ line} a = omega arith
 
 -- Its stamp lies before day 100,000.
-pub line-ticks : {d : DateTime} {r : Record} {line : List ℕ} → AsciiLine d r line → ticks (d .time) ≤ 86399999999999
+pub line-ticks : {d : DateTime} {r : Record} {line : List ℕ} → AsciiLine d r line → ticks (d .time) ≤ tickLimit
 line-ticks a = let s = a .stamp in let l = s .last in let t = s .exists .time in omega arith

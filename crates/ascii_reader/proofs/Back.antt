@@ -28,7 +28,7 @@ use Rattle.ascii_reader.specs.Text.{Lines, over, line, FirstStart, no-li
 use Rattle.ascii_reader.specs.Text
 use Rattle.ascii_reader.specs.Promise.{ReadAsciiPromise, large, refused, many, no-room, done}
 use Rattle.ascii_reader.proofs.Stops.{refused-numbers}
-use Rattle.ascii_reader.proofs.OwnLines.{onChannel, own-ended, own-line}
+use Rattle.ascii_reader.proofs.OwnLines.{Dated, onChannel, own-ended, own-line}
 
 -- The stamp of a line is the one that its start and offset give.
 line-stamp : {start : ℕ} {s : DateTime} {r : Record} {l : List ℕ} → AsciiLine s r l → instant s ≡ start * 1000 + r .offset → Stamp start (r .offset) s
@@ -55,7 +55,7 @@ returned {start} (line {s = s} {r = r} {rs = rs} {text = text} f a e h ls) =
     let t = line-stamp a e in
     let m = line-ticks a in
     let w = line-formed a h in
-    let b : start * 1000 + r .offset < 8640000000000000 = omega arith in
+    let b : Dated start r = omega arith in
     let k = a .frame .kind in
     let q = own-bus a in
     let y : lineOf s r ≡ lineText s (r .bus) r = ap (λ (n : ℕ). lineText s n r) q in

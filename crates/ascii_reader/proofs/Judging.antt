@@ -12,11 +12,12 @@ use Rattle.record.specs.declared.Record.{Record}
 use Rattle.ascii_line_reader.specs.declared.LineRead.{LineRead}
 use Rattle.ascii_line_reader.specs.AsciiLine.{withOffset, instant}
 use Rattle.ascii_line_reader.proofs.Theorems.{line-moved, line-ticks}
+use Rattle.ascii_line_reader.specs.inner.Answer.{tickLimit}
 use Rattle.ascii_reader.specs.declared.Judged.the-variants as judged
 use Rattle.ascii_reader.specs.Text.{Lines, over, line, FirstStart, no-lines, cut}
 use Rattle.ascii_reader.specs.Promise.{ReadUpTo, NextStamp, AsciiRefusedAt}
 use Rattle.ascii_reader.specs.Promise
-use Rattle.ascii_reader.specs.inner.Passes.{tickLimit, FaultOf, none, early, late, Judges}
+use Rattle.ascii_reader.specs.inner.Passes.{FaultOf, none, early, late, Judges}
 use Rattle.ascii_reader.proofs.UpTo.{read-more}
 use Rattle.ascii_reader.proofs.Windows.{Found}
 

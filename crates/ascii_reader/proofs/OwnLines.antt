@@ -1,5 +1,5 @@
 -- Our own lines are such lines: what `export` wrote is never refused with 31, up to day 99,999.
-use Prim.Native.Nat.{ℕ, _+_, _*_, _≤_, _<_}
+use Prim.Native.Nat.{ℕ, suc, _+_, _*_, _≤_, _<_}
 use mathlib.Core.Path.{_≡_, refl, ap, _∙_}
 use mathlib.Core.Logic.{_≢_, inl}
 use mathlib.Core.List.{List, [], _∷_, _++_, append-assoc}
@@ -20,6 +20,7 @@ use Rattle.ascii.proofs.Answers.{stopped-number}
 use Rattle.ascii.proofs.Channels.{first-channel, own-channel, channel-most}
 use Rattle.ascii.proofs.Exporting.{exports-line, export-most}
 use Rattle.ascii_line_reader.specs.AsciiLine.{StampFits, FrameFits, AsciiLine}
+use Rattle.ascii_line_reader.specs.inner.Answer.{tickLimit}
 use Rattle.ascii_line_reader.proofs.House.{houseLine, house-text, house-line, house-inside}
 use Rattle.ascii_reader.specs.Text.{EndedLine, Lines}
 use Rattle.ascii_reader.specs.Text
@@ -27,8 +28,12 @@ use Rattle.ascii_reader.specs.Promise.{NextStamp, AsciiRefusedAt, no-lin
 use Rattle.ascii_reader.specs.Promise as read
 use Rattle.ascii_reader.proofs.Ends.{ended-one, ended-none, ended-more}
 
+-- The stamp of a record does not pass day 99,999.
+abbrev pub Dated : ℕ → Record → Type 0
+Dated start r = start * 1000 + r .offset < 100 * suc tickLimit
+
 -- A stamp up to day 99,999, whichever start and offset it is of.
-pub stamp-fits : {start offset : ℕ} {s : DateTime} → Stamp start offset s → start * 1000 + offset < 8640000000000000 → StampFits s
+pub stamp-fits : {start offset : ℕ} {s : DateTime} → Stamp start offset s → start * 1000 + offset < 100 * suc tickLimit → StampFits s
 stamp-fits s h =
     let t = s .time in
     record {
@@ -58,7 +63,7 @@ channel-low bus = go (ℕ-discrete bus 0)
 
 -- The line of a record, as it is exported, is such a line.
 module _ {start : ℕ} {r : Record} {s : DateTime} (w : WellFormed r) (k : r .kind ≤ 1) (t : Stamp start (r .offset) s)
-    (h : start * 1000 + r .offset < 8640000000000000) where
+    (h : Dated start r) where
   fits : FrameFits (onChannel r)
   fits = record {
     first-channel = channel-low (r .bus);
@@ -94,10 +99,6 @@ module _ {start : ℕ} {r : Record} {s : DateTime} (w : WellFormed r) (k : r .ki
 pub data SuchLines : List ℕ → Type 0 where
   over : SuchLines []
   line : {s : DateTime} {r : Record} {l rest text : List ℕ} → EndedLine l rest text → AsciiLine s r l → SuchLines rest → SuchLines text
-
--- The stamp of a record lies before day 100,000.
-abbrev pub Dated : ℕ → Record → Type 0
-Dated start r = start * 1000 + r .offset < 8640000000000000
 
 pub own-lines : {start : ℕ} {rs : List Record} {text : List ℕ} → Each WellFormed rs → Each (Dated start) rs → Exports start rs text → SuchLines text
 own-lines none none Promise.none = over

@@ -17,11 +17,12 @@ ghost use Prim.Native.Nat.{_+_, _*_, _≤_};
 ghost use lib.ListN.{length};
 ghost use Rattle.digits.specs.inner.HexTable.{HexTable};
 ghost use Rattle.ascii_line_reader.specs.AsciiLine.{withOffset};
+ghost use Rattle.ascii_line_reader.specs.inner.Answer.{tickLimit};
 ghost use Rattle.trace.specs.Trace.{sizeLimit};
 ghost use Rattle.trace.specs.inner.Passes.{Reaches};
 ghost use Rattle.ascii_reader.specs.Promise.{readAsciiNumbers, Numbered, ReadAsciiPromise};
 ghost use Rattle.ascii_reader.specs.inner.Ends.{crForAll, EndAt};
-ghost use Rattle.ascii_reader.specs.inner.Passes.{tickLimit, LineAt, FaultOf, Judges, RecordsFit, Filled};
+ghost use Rattle.ascii_reader.specs.inner.Passes.{LineAt, FaultOf, Judges, RecordsFit, Filled};
 
 // The answer of `read_ascii`.
 pub enum AsciiRead {

@@ -16,6 +16,10 @@ use Rattle.ascii_line_reader.specs.declared.LineRead.{LineRead}
 use Rattle.ascii_line_reader.specs.AsciiLine.{StampFits, AsciiLine}
 use Rattle.ascii_line_reader.specs.inner.Frame.{Left}
 
+-- The last stamp that a line may have, in steps of 100 microseconds from the beginning of day 0: the last one of day 99,999.
+abbrev pub tickLimit : ℕ
+tickLimit = 86399999999999
+
 -- So many digits of the number n stand at a place, and t behind them; or n is too large for so many digits, and no such digits stand there.
 pub data DigitsThen (width : ℕ) (t s : List ℕ) (at n : ℕ) : Type 0 where
   digits : {g : List ℕ} → Padded width n g → drop at s ≡ g ++ (t ++ drop (at + width + length t) s) → Lined (drop (at + width + length t) s)

@@ -15,10 +15,6 @@ use Rattle.ascii_reader.specs.declared.Judged.the-variants as judged
 use Rattle.ascii_reader.specs.Text.{EndedLine, SpellsAscii}
 use Rattle.ascii_reader.specs.Promise.{NextStamp, AsciiRefusedAt}
 
--- The last stamp that a line may have, in steps of 100 microseconds: the last before day 100,000.
-abbrev pub tickLimit : ℕ
-tickLimit = 86399999999999
-
 -- The stamp and the record of the line at `at`, and where the next line starts; or x .end is 0, and what stands there is no such line.
 pub data LineAt (text : List ℕ) (at : ℕ) (x : LineRead) : Type 0 where
   here : {s : DateTime} {line : List ℕ} → EndedLine line (drop (x .end) text) (drop at text) → AsciiLine s (x .r) line → x .ticks ≡ ticks (s .time)
