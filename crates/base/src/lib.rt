@@ -6,6 +6,9 @@ ghost use lib.ListN.{length};
 ghost use Rattle.base.specs.Text.{cr, lf};
 ghost use Rattle.base.specs.inner.Wrote.{Wrote};
 
+// The most digits of an offset's milliseconds.
+pub const OFFSET_DIGITS: usize = 11;
+
 // The largest offset, in microseconds: eleven digits of milliseconds and three of their fraction.
 pub const OFFSET_LIMIT: u64 = 99_999_999_999_999;
 

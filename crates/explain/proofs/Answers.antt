@@ -18,6 +18,7 @@ use Rattle.row.specs.Row.{RowFields, Expected, this, any}
 use Rattle.row.specs.Versions.{Version}
 use Rattle.row.specs.declared.Part.{Part}
 use Rattle.row.specs.declared.Step.{Step}
+use Rattle.row.specs.inner.Sizes.{wordBytes}
 use Rattle.row.specs.inner.Stages.{Continues, Good, EndsRow, whole, early}
 use Rattle.row.proofs.Columns.{after-number}
 use Rattle.row.proofs.Long.{number-short}
@@ -92,5 +93,5 @@ expected-can-end (suc n) is h = ended-as (this refl) (row-can-end is (omega arit
 pub no-row-empty : {v k : ℕ} (r : Record) → ExpectedFields v k r [] → ⊥
 no-row-empty r c = elim (c .row) [ ]
 
-pub no-long-number : {v k : ℕ} {f : List ℕ} → 16 ≤ length f → (fs : List (List ℕ)) (r : Record) → ExpectedFields v k r (f ∷ fs) → ⊥
+pub no-long-number : {v k : ℕ} {f : List ℕ} → wordBytes ≤ length f → (fs : List (List ℕ)) (r : Record) → ExpectedFields v k r (f ∷ fs) → ⊥
 no-long-number l fs r c = let h = number-short (after-number (c .row) .0) in omega arith

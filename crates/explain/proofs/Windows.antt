@@ -19,6 +19,7 @@ use Rattle.lines.proofs.Scans.{to-end, not-end}
 use Rattle.row.specs.declared.Part.{Part}
 use Rattle.row.specs.declared.Step.{Step}
 use Rattle.row.specs.Row.{RowFields}
+use Rattle.row.specs.inner.Sizes.{wordBytes}
 use Rattle.row.specs.inner.Stages.{Steps, Continues}
 use Rattle.row.specs.inner.Stages.{moved as steps-moved, stuck as steps-stuck}
 use Rattle.row.proofs.Columns.{after-number}
@@ -70,30 +71,30 @@ word r z = all-map (λ b q. record { low = q .low; high = q .high }) (to-end r z
 pub no-word : {f : List ℕ} {e : ℕ} → Ran (Between 65 90) f 0 e → e ≢ length f → All Capital f → ⊥
 no-word r n a = not-end r n (all-map (λ b q. record { low = q .low; high = q .high }) a)
 
-pub long-stuck : {f : List ℕ} (p : Part) (t : Step) → 16 ≤ length f → (All Capital f → ⊥) → t .at ≡ 0 → Moves (Continues p) f t
+pub long-stuck : {f : List ℕ} (p : Part) (t : Step) → wordBytes ≤ length f → (All Capital f → ⊥) → t .at ≡ 0 → Moves (Continues p) f t
 long-stuck p t l n z = stuck z (λ fs r c. n (long-field p fs r l c .0))
 
-pub front-word : (f : List ℕ) → All Capital f → All Capital (take 16 f)
-front-word f a = all-left (take 16 f) (drop 16 f) (rw take-append-drop a)
+pub front-word : (f : List ℕ) → All Capital f → All Capital (take wordBytes f)
+front-word f a = all-left (take wordBytes f) (drop wordBytes f) (rw take-append-drop a)
 
-pub long-moves : {f : List ℕ} (p : Part) (t : Step) → 16 ≤ length f → All Capital f → Moves (Continues p) (take 16 f) t → Moves (Continues p) f t
+pub long-moves : {f : List ℕ} (p : Part) (t : Step) → wordBytes ≤ length f → All Capital f → Moves (Continues p) (take wordBytes f) t → Moves (Continues p) f t
 long-moves {f} p t l a m = go m
   where
-    n : 16 ≤ length (take 16 f)
-    n = rw (length-take-le 16 f l) (omega arith)
+    n : wordBytes ≤ length (take wordBytes f)
+    n = rw (length-take-le wordBytes f l) (omega arith)
 
-    onto : (fs : List (List ℕ)) (r : Record) → Continues p (f ∷ fs) r → Continues p (take 16 f ∷ fs) r
-    onto fs r c = long-field p fs r l c .1 (take 16 f) (front-word f a)
+    onto : (fs : List (List ℕ)) (r : Record) → Continues p (f ∷ fs) r → Continues p (take wordBytes f ∷ fs) r
+    onto fs r c = long-field p fs r l c .1 (take wordBytes f) (front-word f a)
 
-    back : (fs : List (List ℕ)) (r : Record) → Continues p (take 16 f ∷ fs) r → Continues p (f ∷ fs) r
+    back : (fs : List (List ℕ)) (r : Record) → Continues p (take wordBytes f ∷ fs) r → Continues p (f ∷ fs) r
     back fs r c = long-field p fs r n c .1 f a
 
-    go : Moves (Continues p) (take 16 f) t → Moves (Continues p) f t
+    go : Moves (Continues p) (take wordBytes f) t → Moves (Continues p) f t
     go (moved z g u v) = moved z g (λ fs r c. u fs r (onto fs r c)) (λ fs r c. back fs r (v fs r c))
     go (stuck z u) = stuck z (λ fs r c. u fs r (onto fs r c))
 
-pub front-field : {f : List ℕ} → 16 ≤ length f → Field f → Field (take 16 f)
+pub front-field : {f : List ℕ} → wordBytes ≤ length f → Field f → Field (take wordBytes f)
 front-field {f} l h = record {
-  some = rw (length-take-le 16 f l) (omega arith);
-  solid = all-left (take 16 f) (drop 16 f) (rw take-append-drop (h .solid));
+  some = rw (length-take-le wordBytes f l) (omega arith);
+  solid = all-left (take wordBytes f) (drop wordBytes f) (rw take-append-drop (h .solid));
 }

@@ -1,5 +1,6 @@
 // Tells what is wrong with a line that is no row: which field, or that it ended early. The fields are taken one after the other by the stages of the
 // row reader (`stages`), each in a window of its own, and in a loop: a line has no limit here, and calls that nest would grow with it.
+use base::OFFSET_DIGITS;
 use digits::hex_table;
 use fields::LAST_NUMBER;
 use fields::WINDOW;
@@ -32,11 +33,11 @@ ghost use Rattle.explain.specs.Explain.{ExpectedFields};
 ghost use Rattle.explain.specs.Promise.{ExplainPromise, explainNumbers};
 ghost use Rattle.explain.specs.inner.Steps.{Field, Moves, FieldsBefore, FoundIn};
 
-// The most bytes of a field that is no word.
-const LONGEST: usize = 15;
+// The most bytes of a field that is no word: an offset, with its point and three digits behind it.
+const LONGEST: usize = OFFSET_DIGITS + 4;
 
 // So many bytes are a word, if they are anything.
-const WORD: usize = 16;
+const WORD: usize = LONGEST + 1;
 
 // What is wrong with a line.
 pub enum Explained {

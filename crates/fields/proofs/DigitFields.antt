@@ -11,7 +11,7 @@ use lib.Arith.{digits-lt}
 use lib.Pow.{pow-add}
 use lib.ListN.{length, getD, drop, List·getD-append}
 use lib.Seq.{slice, length-slice, getD-drop}
-use Rattle.base.specs.Limits.{offsetLimit}
+use Rattle.base.specs.Limits.{offsetDigits, offsetLimit}
 use Rattle.base.proofs.Lists.{slice-snoc, cut}
 use Rattle.digits.specs.Digits.{DecimalDigit, HexDigit, Digits, Decimal}
 use Rattle.digits.specs.Digits.{none as no-digits, more as digits-more}
@@ -60,7 +60,7 @@ pub record Found (w : List ℕ) (at : ℕ) (s : Scan) (g u : List ℕ) (k : ℕ)
   pub behind : drop (s .end) w ≡ u
 
 found : {D : ℕ → ℕ → Type 0} {b most : ℕ} {w : List ℕ} {at : ℕ} {s : Scan} {g : List ℕ} {k : ℕ} → System D b → Scanned D b most w at s
-    → (u : List ℕ) → Digits D b g k → length g < most → Stops (Some D) u → drop at w ≡ g ++ u → Found w at s g u k
+    → (u : List ℕ) → Digits D b g k → length g ≤ most → Stops (Some D) u → drop at w ≡ g ++ u → Found w at s g u k
 found {most = most} {w = w} {at = at} {s = s} y c u r h t e =
     let o = scan-one most w at s c u (digits-all r) t e h in
     let l = inside w (s .end) (c .lined) in
@@ -102,7 +102,7 @@ solid-digits : {b n : ℕ} {s : List ℕ} → Digits DecimalDigit b s n → All 
 solid-digits r = all-map decimal-solid (digits-all r)
 
 -- The bytes that a scan found: how many, and the first of them.
-module _ {w : List ℕ} {at : ℕ} {s : Scan} (c : Scanned DecimalDigit 10 12 w at s) where
+module _ {w : List ℕ} {at : ℕ} {s : Scan} (c : Scanned DecimalDigit 10 offsetDigits w at s) where
   size : length (slice at (s .end) w) ≡ s .end - at
   size = let k = inside w (s .end) (c .lined) in length-slice at (s .end) w (omega arith)
 
@@ -123,8 +123,8 @@ module _ {w : List ℕ} {at : ℕ} {s : Scan} (c : Scanned DecimalDigit 10 12 w 
   scan-within k h = within decimal k (omega arith) (c .digits) (omega (arith, size))
 
   -- the number fits 64 bits, in thousands too
-  pub scan-below : s .value < 10 ^ 12
-  scan-below = scan-within 12 (c .few)
+  pub scan-below : s .value < 10 ^ offsetDigits
+  scan-below = scan-within offsetDigits (c .few)
 
 -- The row number.
 
@@ -137,7 +137,7 @@ pub record NumberShape (w : List ℕ) (at : ℕ) (s : Scan) : Type 0 where
   pub bracketed : getD w (s .end) 0 ≡ 41
   pub stop : End (getD w (s .end + 1) 0)
 
-pub number-shape : {w : List ℕ} {at k : ℕ} {s : Scan} {f rest : List ℕ} → Scanned DecimalDigit 10 12 w at s → FieldAt f rest (drop at w)
+pub number-shape : {w : List ℕ} {at k : ℕ} {s : Scan} {f rest : List ℕ} → Scanned DecimalDigit 10 offsetDigits w at s → FieldAt f rest (drop at w)
     → NumberField k f → NumberShape w at s
 number-shape {w} {at} {k} {s} {f} {rest} c a p =
     let l = decimal-few 5 (p .spelled) (omega arith) in
@@ -152,7 +152,7 @@ number-shape {w} {at} {k} {s} {f} {rest} c a p =
       stop = ended w (s .end + 1) (goes-on w (s .end) 41 (c .lined) (h .1) (omega arith)) (rw (h .2) (a .stops));
     }
 
-pub number-accept : {w : List ℕ} {at : ℕ} {s : Scan} → Scanned DecimalDigit 10 12 w at s → getD w at 0 ≢ 48 → NumberShape w at s
+pub number-accept : {w : List ℕ} {at : ℕ} {s : Scan} → Scanned DecimalDigit 10 offsetDigits w at s → getD w at 0 ≢ 48 → NumberShape w at s
     → Takes NumberField w at (record { end = s .end + 1; value = s .value })
 number-accept {w} {at} {s} c z h =
     let l = inside w (s .end) (c .lined) in
@@ -181,7 +181,7 @@ pub record BusShape (w : List ℕ) (at : ℕ) (s : Scan) : Type 0 where
   pub high : s .value ≤ 16
   pub stop : End (getD w (s .end) 0)
 
-pub bus-shape : {w : List ℕ} {at v : ℕ} {s : Scan} {f rest : List ℕ} → Scanned DecimalDigit 10 12 w at s → FieldAt f rest (drop at w)
+pub bus-shape : {w : List ℕ} {at v : ℕ} {s : Scan} {f rest : List ℕ} → Scanned DecimalDigit 10 offsetDigits w at s → FieldAt f rest (drop at w)
     → BusField v f → BusShape w at s
 bus-shape {w} {at} {v} {s} {f} {rest} c a p =
     let l = decimal-few 1 (p .spelled) (omega arith) in
@@ -189,7 +189,7 @@ bus-shape {w} {at} {v} {s} {f} {rest} c a p =
     let o = found decimal c rest (p .spelled .digits) (omega arith) (digit-stops decimal-solid (a .stops)) (a .bytes) in
     record { some = omega arith; high = omega arith; stop = ended w (s .end) (c .lined) (rw (o .behind) (a .stops)) }
 
-pub bus-accept : {w : List ℕ} {at : ℕ} {s : Scan} → Scanned DecimalDigit 10 12 w at s → getD w at 0 ≢ 48 → BusShape w at s
+pub bus-accept : {w : List ℕ} {at : ℕ} {s : Scan} → Scanned DecimalDigit 10 offsetDigits w at s → getD w at 0 ≢ 48 → BusShape w at s
     → Takes BusField w at (record { end = s .end; value = s .value })
 bus-accept {w} {at} {s} c z h =
     let l = inside w (s .end) (c .lined) in
@@ -225,12 +225,11 @@ pub record OffsetTail (w : List ℕ) (digits : ℕ) (s t : Scan) : Type 0 where
 
 pub record OffsetShape (w : List ℕ) (at digits : ℕ) (s : Scan) : Type 0 where
   pub some : at < s .end
-  pub few : s .end ≤ at + 11
   pub lead : at + 1 < s .end → getD w at 0 ≢ 48
   pub point : getD w (s .end) 0 ≡ 46
-  pub tail : {t : Scan} → Scanned DecimalDigit 10 12 w (s .end + 1) t → OffsetTail w digits s t
+  pub tail : {t : Scan} → Scanned DecimalDigit 10 offsetDigits w (s .end + 1) t → OffsetTail w digits s t
 
-pub offset-shape : {w : List ℕ} {at digits v : ℕ} {s : Scan} {f rest : List ℕ} → digits ≤ 3 → Scanned DecimalDigit 10 12 w at s
+pub offset-shape : {w : List ℕ} {at digits v : ℕ} {s : Scan} {f rest : List ℕ} → digits ≤ 3 → Scanned DecimalDigit 10 offsetDigits w at s
     → FieldAt f rest (drop at w) → OffsetField digits v f → OffsetShape w at digits s
 offset-shape {w} {at} {digits} {v} {s} {f} {rest} m c a p =
     let n = p .first .some in
@@ -241,7 +240,6 @@ offset-shape {w} {at} {digits} {v} {s} {f} {rest} m c a p =
     let e = first w at (p .whole) (46 ∷ (p .part ++ rest)) g n in
     record {
       some = omega arith;
-      few = omega arith;
       lead = λ l q. p .first .lead (omega arith) (sym e ∙ q);
       point = h .1;
       tail = λ {t} d.
@@ -250,18 +248,18 @@ offset-shape {w} {at} {digits} {v} {s} {f} {rest} m c a p =
     }
 
 -- Eleven digits of milliseconds, and w of their fraction, are within the largest offset.
-offset-within : (w m n : ℕ) → w ≤ 3 → m < 10 ^ 11 → n < 10 ^ w → m * 1000 + n * 10 ^ (3 - w) ≤ offsetLimit
+offset-within : (w m n : ℕ) → w ≤ 3 → m < 10 ^ offsetDigits → n < 10 ^ w → m * 1000 + n * 10 ^ (3 - w) ≤ offsetLimit
 offset-within w m n l h k =
     let e : w + (3 - w) ≡ 3 = omega arith in
     let c : 10 ^ w * 10 ^ (3 - w) ≡ 10 ^ 3 = sym (pow-add 10 w (3 - w)) ∙ ap (λ (k : ℕ). 10 ^ k) e in
     let f = digits-lt k (one-le-pow (3 - w) 10 (omega arith)) in
     omega arith
 
-pub offset-accept : {w : List ℕ} {at digits : ℕ} {s t : Scan} (v : ℕ) → digits ≤ 3 → Scanned DecimalDigit 10 12 w at s
-    → Scanned DecimalDigit 10 12 w (s .end + 1) t → at < s .end → s .end ≤ at + 11 → (at + 1 < s .end → getD w at 0 ≢ 48)
+pub offset-accept : {w : List ℕ} {at digits : ℕ} {s t : Scan} (v : ℕ) → digits ≤ 3 → Scanned DecimalDigit 10 offsetDigits w at s
+    → Scanned DecimalDigit 10 offsetDigits w (s .end + 1) t → at < s .end → (at + 1 < s .end → getD w at 0 ≢ 48)
     → getD w (s .end) 0 ≡ 46 → OffsetTail w digits s t → v ≡ s .value * 1000 + t .value * 10 ^ (3 - digits)
     → Takes (OffsetField digits) w at (record { end = t .end; value = v })
-offset-accept {w} {at} {digits} {s} {t} v three c d some few z point h e =
+offset-accept {w} {at} {digits} {s} {t} v three c d some z point h e =
     let l = inside w (t .end) (d .lined) in
     let f = d .from in
     let b : Solid 46 = record { blank = λ q. omega arith; end = λ q. omega arith } in
@@ -279,7 +277,7 @@ offset-accept {w} {at} {digits} {s} {t} v three c d some few z point h e =
       short = omega (arith, size c);
       second = record { digits = d .digits; width = omega (arith, length-slice (s .end + 1) (t .end) w (omega arith), h .width) };
       value = e;
-      limit = rw e (offset-within digits (s .value) (t .value) three (scan-within c 11 few) (scan-within d digits (omega (arith, h .width))));
+      limit = rw e (offset-within digits (s .value) (t .value) three (scan-below c) (scan-within d digits (omega (arith, h .width))));
     })
 
 -- The digits behind the point as microseconds.

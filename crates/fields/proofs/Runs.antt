@@ -22,11 +22,12 @@ module _ {P : ℕ → Type 0} where
   cut (more n f) empty xs ys e = absurd (no-start n ys (sym e))
   cut (more n f) (more m g) xs ys e = let r = cut f g xs ys (cc) in (cc (r .0), r .1)
 
-  -- no run is longer than the one that stops
-  pub longest : {f g t : List ℕ} (s : List ℕ) → All P f → All P g → Stops P t → f ++ s ≡ g ++ t → length f ≤ length g
-  longest s empty b ys e = zero-le
-  longest s (more n f) empty ys e = absurd (no-start n ys (sym e))
-  longest s (more n f) (more m g) ys e = suc-le-suc (longest s f g ys (cc))
+  -- a run that stops is the only one of its length or more
+  pub longest : {f g t : List ℕ} (s : List ℕ) → All P f → All P g → Stops P t → length g ≤ length f → f ++ s ≡ g ++ t → (f ≡ g) × (s ≡ t)
+  longest s empty empty ys l e = (refl, e)
+  longest s empty (more m g) ys l e = absurd (omega arith)
+  longest s (more n f) empty ys l e = absurd (no-start n ys (sym e))
+  longest s (more n f) (more m g) ys l e = let r = longest s f g ys (omega arith) (cc) in (cc (r .0), r .1)
 
   pub all-append : {f g : List ℕ} → All P f → All P g → All P (f ++ g)
   all-append empty b = b

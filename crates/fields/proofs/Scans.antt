@@ -1,5 +1,5 @@
 -- What a scan of digits found is what any field has there.
-use Prim.Native.Nat.{ℕ, _+_, _<_}
+use Prim.Native.Nat.{ℕ, _+_, _≤_, _<_}
 use mathlib.Core.Path.{_≡_, sym, _∙_}
 use mathlib.Core.List.{List, _++_}
 use native.Mathlib.Omega.{arith}
@@ -36,8 +36,8 @@ module _ {D : ℕ → ℕ → Type 0} {b : ℕ} (most : ℕ) (w : List ℕ) (at 
   split : drop at w ≡ slice at (s .end) w ++ drop (s .end) w
   split = let l = inside w (s .end) (c .lined) in slice-drop at (s .end) w (c .from) (omega arith)
 
-  -- digits that stand there, and that something else follows, are those that the scan found, if they are fewer than it looks for
-  pub scan-one : {g : List ℕ} (u : List ℕ) → All (Some D) g → Stops (Some D) u → drop at w ≡ g ++ u → length g < most
+  -- digits that stand there, and that something else follows, are those that the scan found, if they are no more than it looks for
+  pub scan-one : {g : List ℕ} (u : List ℕ) → All (Some D) g → Stops (Some D) u → drop at w ≡ g ++ u → length g ≤ most
       → (g ≡ slice at (s .end) w) × (u ≡ drop (s .end) w)
   scan-one {g} u a k e h = go (decLt (s .end) (at + most))
     where
@@ -45,6 +45,6 @@ module _ {D : ℕ → ℕ → Type 0} {b : ℕ} (most : ℕ) (w : List ℕ) (at 
       go (yes l) = cut a (digits-all (c .digits)) k (stops l) (sym e ∙ split)
       go (no n) =
           let i = inside w (s .end) (c .lined) in
-          let q = longest (drop (s .end) w) (digits-all (c .digits)) a k (sym split ∙ e) in
           let f = c .from in
-          absurd (omega (arith, length-slice at (s .end) w (omega arith)))
+          let q = longest (drop (s .end) w) (digits-all (c .digits)) a k (omega (arith, length-slice at (s .end) w (omega arith))) (sym split ∙ e) in
+          (sym (q .0), sym (q .1))

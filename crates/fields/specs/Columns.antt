@@ -4,7 +4,7 @@ use Prim.Native.Char.{code}
 use mathlib.Core.Path.{_≡_}
 use mathlib.Core.List.{List, [], _∷_, _++_}
 use lib.ListN.{length}
-use Rattle.base.specs.Limits.{offsetLimit}
+use Rattle.base.specs.Limits.{offsetDigits, offsetLimit}
 use Rattle.base.specs.Text.{text, bracket, point}
 use Rattle.digits.specs.Digits.{Decimal, Padded, Hex}
 use Rattle.digits.specs.House.{figureOf}
@@ -30,7 +30,7 @@ pub record OffsetField (w offset : ℕ) (f : List ℕ) : Type 0 where
   pub ms : ℕ
   pub fraction : ℕ
   pub first : Decimal ms whole
-  pub short : length whole ≤ 11
+  pub short : length whole ≤ offsetDigits
   pub second : Padded w fraction part
   pub value : offset ≡ ms * 1000 + fraction * 10 ^ (3 - w)
   pub limit : offset ≤ offsetLimit

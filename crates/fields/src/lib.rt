@@ -1,5 +1,6 @@
 // Skips the gap before a field of the window, and reads single fields of it. A field is read without searching its end first: what stops its digits must end it.
 // Each reader takes the window as a slice first, `bytes`: a proof learns the length of an array behind a reference in no other way.
+use base::OFFSET_DIGITS;
 use base::wide;
 use digits::hex_digit;
 ghost use mathlib.Core.Path.{_≡_};
@@ -7,6 +8,7 @@ ghost use mathlib.Core.Logic.{_⊎_};
 ghost use mathlib.Core.List.{[], _∷_};
 ghost use Prim.Native.Nat.{_<_};
 ghost use lib.ListN.{length, getD, drop};
+ghost use Rattle.base.specs.Limits.{offsetDigits};
 ghost use Rattle.base.specs.inner.Decides.{Decides};
 ghost use Rattle.base.specs.Text.{text, blank, cr};
 ghost use Rattle.digits.specs.Digits.{DecimalDigit, HexDigit, Hex};
@@ -82,15 +84,15 @@ fn none() -> Scan
     Scan { end: 0, value: 1 }
 }
 
-// The decimal digits from a place on, at most twelve: `0` is 48 and `9` is 57.
+// The decimal digits from a place on, at most as many as an offset has before its point: `0` is 48 and `9` is 57.
 fn decimal(w: &[u8; WINDOW], at: usize) -> Scan
     requires { ⌜ Lined (drop at (now w)) ⌝ }
-    ensures { λ s. ⌜ Scanned DecimalDigit 10 12 (now (w .entry)) at s ⌝ }
+    ensures { λ s. ⌜ Scanned DecimalDigit 10 offsetDigits (now (w .entry)) at s ⌝ }
 {
     let bytes: &[u8] = w;
     let mut n: u64 = 0;
     let mut i = at;
-    while i < at + 12 {
+    while i < at + OFFSET_DIGITS {
         let b = wide(bytes[i]);
         if b < 48 {
             return Scan { end: i, value: n };
@@ -162,9 +164,6 @@ pub fn offset_field(w: &[u8; WINDOW], at: usize, digits: usize) -> Scan
     let s = decimal(w, at);
     let e = s.end;
     if e == at {
-        return none();
-    }
-    if at + 11 < e {
         return none();
     }
     if bytes[at] == b'0' {

@@ -1,4 +1,4 @@
--- A field of sixteen bytes or more is a warning's word, and any other word would do in its place.
+-- A field that is longer than any other is a warning's word, and any other word would do in its place.
 use Prim.Native.Nat.{ℕ, _≤_}
 use mathlib.Core.Path.{ap, _∙_}
 use mathlib.Core.List.{List, [], _∷_}
@@ -13,6 +13,7 @@ use Rattle.row.specs.declared.Part.{Part}
 use Rattle.row.specs.declared.Stage.{Stage}
 use Rattle.row.specs.declared.Stage.the-variants as stage
 use Rattle.row.specs.Row
+use Rattle.row.specs.inner.Sizes.{longestField, wordBytes}
 use Rattle.row.specs.inner.Stages.{continuesAt, Continues}
 use Rattle.row.proofs.EachVersion.{digits-few}
 
@@ -24,7 +25,7 @@ number-short n =
     let d = decimal-few 5 (n .spelled) (omega arith) in
     omega (arith, ap length (n .bytes) ∙ length-append (n .digits) (41 ∷ []))
 
-offset-short : {w offset : ℕ} {f : List ℕ} → w ≤ 3 → OffsetField w offset f → length f ≤ 15
+offset-short : {w offset : ℕ} {f : List ℕ} → w ≤ 3 → OffsetField w offset f → length f ≤ longestField
 offset-short l o = omega (arith, ap length (o .bytes) ∙ length-append (o .whole) (46 ∷ o .part), o .short, o .second .width)
 
 bus-short : {bus : ℕ} {f : List ℕ} → BusField bus f → length f ≤ 2
@@ -34,7 +35,7 @@ id-short : {x i : ℕ} {f : List ℕ} → IdField x i f → length f ≤ 8
 id-short (standard e h l) = omega (arith, h .width)
 id-short (long e h l) = omega (arith, h .width)
 
-hex-short : {w n : ℕ} {f : List ℕ} → w ≤ 15 → Hex w n f → length f ≤ 15
+hex-short : {w n : ℕ} {f : List ℕ} → w ≤ 8 → Hex w n f → length f ≤ 8
 hex-short l h = omega (arith, h .width)
 
 length-short : {n : ℕ} {f : List ℕ} → LengthField n f → length f ≤ 1
@@ -55,7 +56,7 @@ data-short (Row.data-bytes k b) = let h = bytes-short b in omega arith
 data-short (Row.remote k d e) = omega (arith, ap length e)
 
 -- Behind the bytes of a warning a long field is a word.
-word-for : {place n sum : ℕ} {f : List ℕ} {fs : List (List ℕ)} → 16 ≤ length f → Row.ByteFields Row.Words place n sum (f ∷ fs)
+word-for : {place n sum : ℕ} {f : List ℕ} {fs : List (List ℕ)} → wordBytes ≤ length f → Row.ByteFields Row.Words place n sum (f ∷ fs)
     → All Capital f × ((g : List ℕ) → All Capital g → Row.ByteFields Row.Words place n sum (g ∷ fs))
 word-for l (Row.done (Row.word a h)) = (a, λ g b. Row.done (Row.word b h))
 word-for l (Row.byte h b e) = absurd (omega (arith, h .width))
@@ -64,11 +65,11 @@ word-for l (Row.byte h b e) = absurd (omega (arith, h .width))
 abbrev pub Word : (List (List ℕ) → Record → Type 0) → List ℕ → List (List ℕ) → Record → Type 0
 Word C f fs r = All Capital f × ((g : List ℕ) → All Capital g → C (g ∷ fs) r)
 
-module _ (p : Part) {f : List ℕ} (fs : List (List ℕ)) (r : Record) (l : 16 ≤ length f) where
-  short : (x : Stage) {n : ℕ} → length f ≤ n → n ≤ 15 → Word (continuesAt x p) f fs r
+module _ (p : Part) {f : List ℕ} (fs : List (List ℕ)) (r : Record) (l : wordBytes ≤ length f) where
+  short : (x : Stage) {n : ℕ} → length f ≤ n → n ≤ longestField → Word (continuesAt x p) f fs r
   short x h k = absurd (omega arith)
 
-  second-short : {sum : ℕ} → Row.ErrorSecond sum (f ∷ fs) → length f ≤ 15
+  second-short : {sum : ℕ} → Row.ErrorSecond sum (f ∷ fs) → length f ≤ 8
   second-short (Row.second h b s q) = hex-short (omega arith) h
 
   long-at : (x : Stage) → continuesAt x p (f ∷ fs) r → Word (continuesAt x p) f fs r

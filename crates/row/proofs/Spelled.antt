@@ -7,7 +7,7 @@ use native.Mathlib.Nat.{sub-zero, pow-suc, pow-succ', one-le-pow, mod-eq-of-lt, 
 use native.Mathlib.Omega.{arith}
 use lib.Arith.{mod-mul}
 use lib.ListN.{length}
-use Rattle.base.specs.Limits.{offsetLimit}
+use Rattle.base.specs.Limits.{offsetDigits, offsetLimit}
 use Rattle.digits.specs.declared.Letters.{Letters}
 use Rattle.digits.specs.declared.Letters.the-variants.{Capital}
 use Rattle.digits.specs.Digits.{Hex}
@@ -22,6 +22,7 @@ use Rattle.record.specs.Record.{WellFormed}
 use Rattle.row.specs.Row
 use Rattle.row.specs.House.{numberText, typeText, idText, dataTexts, frameTexts, rowTexts, rowText}
 use Rattle.row.specs.Versions.{is11, is12, Carries, v11, v12}
+use Rattle.row.specs.inner.Sizes.{longestRow}
 use Rattle.row.proofs.Fields.{each-map}
 use Rattle.row.proofs.Formed.{error-small}
 use Rattle.row.proofs.Plain.{fields-plain}
@@ -68,7 +69,7 @@ offset-spelled w offset fraction l h e q = record {
   ms = offset / 1000;
   fraction = fraction;
   first = decimal-spells (offset / 1000);
-  short = few 10 (offset / 1000) (omega arith);
+  short = few (offsetDigits - 1) (offset / 1000) (omega arith);
   second = padded-spells w fraction h;
   value = e;
   limit = l;
@@ -171,6 +172,6 @@ row-spelled {v} {k} {r} w c l h =
     let p = each-map (λ g a. all-map (λ b q. q .blank) a) (fields-plain f) in
     record { fields = rowTexts v k r; parted = parted-joined (row-sized w c h) p; row = f }
 
--- It has at most 64 bytes: `999999) 99999999999.999 16 Rx 1FFFFFFF 8`, and eight bytes.
-pub row-size : {v k : ℕ} {r : Record} → WellFormed r → Carries r v → k ≤ lastNumber → length (rowText v k r) ≤ 64
+-- It is no longer than the longest.
+pub row-size : {v k : ℕ} {r : Record} → WellFormed r → Carries r v → k ≤ lastNumber → length (rowText v k r) ≤ longestRow
 row-size {v} {k} {r} w c h = let s = joined-short (rw row-texts at (row-sized {k = k} w c h)) in rw row-texts (omega arith)

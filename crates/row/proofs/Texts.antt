@@ -9,7 +9,7 @@ use native.Mathlib.Omega.{arith}
 use borrow.Author.Tests.{eq-eqb, ne-eqb, lt-ltb, le-ltb}
 use lib.Dec.{leb, ltb, leb→le}
 use lib.ListN.{length, getD, length-append}
-use Rattle.base.specs.Limits.{offsetLimit}
+use Rattle.base.specs.Limits.{offsetDigits, offsetLimit}
 use Rattle.base.specs.Spaced.{joined}
 use Rattle.base.proofs.Spaced.{spaced-none, spaced-more, joined-none, joined-more}
 use Rattle.base.proofs.Numbers.{below-or-not}
@@ -26,6 +26,7 @@ use Rattle.record.specs.declared.Record.{Record}
 use Rattle.record.specs.Record.{WellFormed}
 use Rattle.row.specs.House.{numberText, offsetText, busTexts, types, typeText, idText, dataTexts, frameTexts, rowTexts}
 use Rattle.row.specs.Versions.{fractionDigits, Carries, v11, v12}
+use Rattle.row.specs.inner.Sizes.{longestField, longestRow}
 use Rattle.row.proofs.Fields.{Each, no-more, then}
 
 -- Joined fields, case by case.
@@ -128,9 +129,9 @@ number-size k h =
     let e = length-append (decimalText k) (41 ∷ []) in
     rw number-text (omega arith, omega arith)
 
-offset-size : (v offset : ℕ) → fractionDigits v ≤ 3 → offset ≤ offsetLimit → Fits 15 (offsetText v offset)
+offset-size : (v offset : ℕ) → fractionDigits v ≤ 3 → offset ≤ offsetLimit → Fits longestField (offsetText v offset)
 offset-size v offset l h =
-    let d = decimal-size 10 (offset / 1000) (omega arith) in
+    let d = decimal-size (offsetDigits - 1) (offset / 1000) (omega arith) in
     let w = fractionDigits v in
     let n = offset % 1000 / 10 ^ (3 - w) in
     let p = length-fixed figureOf 10 w n in
@@ -200,14 +201,14 @@ type-sized {r} w = ⊎-elim frame other (below-or-not (r .kind) 4)
         (fits 23 8 14 (id-size r (w .extended)) (omega arith)
         (fits 14 1 12 (omega arith, omega arith) (omega arith) (rw (data-bytes r n) d)))
 
--- No field of the house is empty, and with a blank behind each they have at most 65 bytes.
-pub row-sized : {v k : ℕ} {r : Record} → WellFormed r → Carries r v → k ≤ lastNumber → Sized 65 (rowTexts v k r)
+-- No field of the house is empty, and with a blank behind each they have at most a byte more than the longest row.
+pub row-sized : {v k : ℕ} {r : Record} → WellFormed r → Carries r v → k ≤ lastNumber → Sized (longestRow + 1) (rowTexts v k r)
 row-sized {k = k} {r = r} w (v11 b o) h =
     rw row-texts-11
-    (fits 65 7 57 (number-size k h) (omega arith)
-    (fits 57 15 38 (offset-size 11 (r .offset) (omega arith) (w .offset)) (omega arith) (type-sized w)))
+    (fits (longestRow + 1) 7 (longestField + 42) (number-size k h) (omega arith)
+    (fits (longestField + 42) longestField 38 (offset-size 11 (r .offset) (omega arith) (w .offset)) (omega arith) (type-sized w)))
 row-sized {k = k} {r = r} w (v12 l b) h =
     rw row-texts-12
-    (fits 65 7 57 (number-size k h) (omega arith)
-    (fits 57 15 41 (offset-size 12 (r .offset) (omega arith) (w .offset)) (omega arith)
+    (fits (longestRow + 1) 7 (longestField + 42) (number-size k h) (omega arith)
+    (fits (longestField + 42) longestField 41 (offset-size 12 (r .offset) (omega arith) (w .offset)) (omega arith)
     (fits 41 2 38 (decimal-size 1 (r .bus) (omega arith)) (omega arith) (type-sized w))))

@@ -1,2 +1,3 @@
 pub mod Ids
+pub mod Sizes
 pub mod Stages

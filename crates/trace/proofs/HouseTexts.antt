@@ -14,6 +14,7 @@ use Rattle.record.specs.Record.{WellFormed}
 use Rattle.records.specs.Records.{Each, none, more}
 use Rattle.row.specs.Versions.{versionText}
 use Rattle.row.specs.House.{rowText}
+use Rattle.row.specs.inner.Sizes.{longestEnded}
 use Rattle.row.proofs.Spelled.{row-size}
 use Rattle.lines.specs.Lines.{startText}
 use Rattle.trace.specs.Trace.{Trace}
@@ -67,9 +68,9 @@ start-line-size start h =
     let p = length-fixed figureOf 10 10 (fractionOfDay (start % dayMs)) in
     simp (start-line, length-append) (omega arith)
 
--- At most 64 bytes a row, and its end.
+-- At most the longest row, and its end, for each.
 pub rows-size : {version : ℕ} {rs : List Record} (k : ℕ) → Each WellFormed rs → Carried version rs → k + length rs ≤ lastNumber + 1
-    → length (rowsText version k rs) ≤ 66 * length rs
+    → length (rowsText version k rs) ≤ longestEnded * length rs
 rows-size k none none h = rw rows-none (omega arith)
 rows-size k (more f fs) (more c cs) h =
     let n : k ≤ lastNumber = omega arith in

@@ -14,6 +14,7 @@ use Rattle.records.proofs.Lists.{each-snoc}
 use Rattle.records.proofs.Through.{Through, through, through-more, all-through}
 use Rattle.row.specs.Versions.{Carries}
 use Rattle.row.specs.House.{rowText}
+use Rattle.row.specs.inner.Sizes.{longestEnded}
 use Rattle.trace.specs.House.{rowsText, Carried}
 use Rattle.trace.proofs.HouseTexts.{rows-none}
 use Rattle.trace.proofs.Numbers.{next-number, from-one}
@@ -30,7 +31,7 @@ row-numbered m n h = let p = m .place in (omega (arith, from-one n (omega arith)
 -- The first row has number `first`, and `wrong` is the first misfit, or 0.
 pub record Measuring (version first : ℕ) (s : List ℕ) (at k bytes wrong : ℕ) : Type 0 where
   pub judged : Through s at k
-  pub bounded : bytes ≤ 66 * k
+  pub bounded : bytes ≤ longestEnded * k
   pub fits : wrong ≡ 0 → Carried version (judged .records) × (bytes ≡ length (rowsText version first (judged .records)))
   pub unfit : wrong ≢ 0 → FirstMisfit version (judged .records) wrong
 
@@ -87,7 +88,7 @@ module _ {version first : ℕ} {s : List ℕ} {at k bytes wrong : ℕ} (m : Meas
               at = a .kept f ∙ u .at;
             }
 
-    pub measured-more : {number : ℕ} → number ≡ first + k → RowBytes version number r n × (n ≤ 66)
+    pub measured-more : {number : ℕ} → number ≡ first + k → RowBytes version number r n × (n ≤ longestEnded)
         → Measuring version first s (at + 20) (k + 1) (bytes + n) new
     measured-more q b =
         let x = rw q at (b .0) in

@@ -1,5 +1,5 @@
 -- The whole text: its two parts, its length, and that it is what was put.
-use Prim.Native.Nat.{ℕ, _+_, _≤_}
+use Prim.Native.Nat.{ℕ, _+_, _*_, _≤_}
 use mathlib.Core.Path.{_≡_, ap, _∙_}
 use mathlib.Core.List.{List, _++_, append-assoc}
 use native.Mathlib.Omega.{arith}
@@ -7,10 +7,12 @@ use lib.ListN.{length, drop, length-append}
 use Rattle.base.specs.inner.Wrote.{Wrote}
 use Rattle.base.proofs.Lists.{then, at-start}
 use Rattle.clock.specs.Start.{startLimit}
+use Rattle.fields.specs.Columns.{lastNumber}
 use Rattle.record.specs.declared.Record.{Record}
 use Rattle.records.specs.Records.{Whole, PacksAll}
 use Rattle.records.proofs.Packing.{packed-count}
 use Rattle.row.specs.Versions.{Version}
+use Rattle.row.specs.inner.Sizes.{longestEnded}
 use Rattle.trace.specs.Trace.{traceOf}
 use Rattle.trace.specs.House.{versionLineText, startLineText, rowsText, traceText, Carried, Writable}
 use Rattle.trace.proofs.HouseTexts.{trace-text, rows-size}
@@ -38,7 +40,7 @@ writable {rs = rs} v l n h c = record {
 }
 
 -- The rows fit a machine word many times over.
-pub rows-few : {version start first : ℕ} {rs : List Record} → Writable (traceOf version start first rs) → length (rowsText version first rs) ≤ 65999934
+pub rows-few : {version start first : ℕ} {rs : List Record} → Writable (traceOf version start first rs) → length (rowsText version first rs) ≤ longestEnded * lastNumber
 rows-few {first = first} w =
     let f = rows-numbered (w .numbered) in
     omega (arith, rows-size first (w .formed) (w .carried) (next-number (w .numbered)))

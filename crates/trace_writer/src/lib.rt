@@ -31,6 +31,7 @@ ghost use Rattle.fields.specs.Columns.{lastNumber};
 ghost use Rattle.record.specs.Record.{WellFormed};
 ghost use Rattle.records.specs.Records.{Whole};
 ghost use Rattle.row.specs.Versions.{Version};
+ghost use Rattle.row.specs.inner.Sizes.{longestEnded};
 ghost use Rattle.trace.specs.Trace.{FirstNumber};
 ghost use Rattle.trace.specs.House.{versionLineText, startLineText};
 ghost use Rattle.trace_writer.specs.Promise.{writeNumbers, NumberFits, WritePromise};
@@ -86,7 +87,7 @@ fn head_length(version: u64, start: u64) -> usize
 // How many bytes a row with its end is, or 0 if the version can't carry it.
 fn row_bytes(version: u64, k: u64, r: Record) -> usize
     requires { ⌜ WellFormed r × (1 ≤ k) × (k ≤ lastNumber) ⌝ }
-    ensures { λ n. ⌜ RowBytes version k r n × (n ≤ 66) ⌝ }
+    ensures { λ n. ⌜ RowBytes version k r n × (n ≤ longestEnded) ⌝ }
 {
     if !carries(r, version) {
         return 0;

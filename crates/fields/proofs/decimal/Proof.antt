@@ -2,6 +2,7 @@
 use Prim.Native.Nat.{_+_, _-_}
 use native.Mathlib.Omega.{arith}
 use borrow.Author.Needs.{needs}
+use Rattle.base.specs.Limits.{offsetDigits}
 use Rattle.digits.specs.Digits.{DecimalDigit}
 use Rattle.digits.proofs.Strings.{decimal}
 use Rattle.fields.proofs.Scans.{decimal-solid}
@@ -11,10 +12,10 @@ use Rattle.fields.proofs.decimal.Statement.{statement}
 use Rattle.fields.proofs.decimal.Tie as tie
 
 abbrev Inv-loop : tie.InvT-loop
-Inv-loop w at bytes n₀ i₀ n i = Passed DecimalDigit 10 12 w at n i
+Inv-loop w at bytes n₀ i₀ n i = Passed DecimalDigit 10 offsetDigits w at n i
 
 abbrev μ-loop : tie.MeasureT-loop
-μ-loop w at bytes n₀ i₀ n i = at + 12 - i
+μ-loop w at bytes n₀ i₀ n i = at + offsetDigits - i
 
 pub decimal-spec : {M : Type 1} → statement M
 decimal-spec =
@@ -26,8 +27,8 @@ decimal-spec =
     (λ c κs. search needs)
     (λ c. stopped (c .before .before .before .before .loop .inv) (below-zero (omega arith)))
     (λ c. stopped (c .before .before .before .before .before .loop .inv) (above-nine (omega arith)))
-    (λ c. let r = room decimal 11 (omega arith) (c .before .before .before .before .before .loop .inv) (omega arith) in omega arith)
-    (λ c. let r = room decimal 11 (omega arith) (c .before .before .before .before .before .loop .inv) (omega arith) in omega arith)
+    (λ c. let r = room decimal (offsetDigits - 1) (omega arith) (c .before .before .before .before .before .loop .inv) (omega arith) in omega arith)
+    (λ c. let r = room decimal (offsetDigits - 1) (omega arith) (c .before .before .before .before .before .loop .inv) (omega arith) in omega arith)
     (λ c. let l = c .before .before .before .before .before .loop in omega (arith, inside _ (l .i) (l .inv .lined)))
     (λ c. omega arith)
     (λ c. let l = c .before .before .before .before .before .loop in

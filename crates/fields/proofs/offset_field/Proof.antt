@@ -19,7 +19,7 @@ abbrev start : tie.After-decimal → tie.Start
 start c = c .before .before
 
 abbrev whole : tie.After-decimal2 → tie.After-decimal
-whole c = c .before .before .before .before .before .before .before
+whole c = c .before .before .before .before .before .before
 
 here : (c : tie.Start) → c .args .at < length (c .args .w .now)
 here c = inside (c .args .w .now) (c .args .at) (c .pre .0 .lined)
@@ -39,13 +39,13 @@ accepted : (c : tie.After-decimal2) (v : ℕ) → OffsetTail (start (whole c) .a
     → Takes (OffsetField (start (whole c) .args .digits)) (start (whole c) .args .w .now) (start (whole c) .args .at) (record { end = c .decimal2 .result .end; value = v })
 accepted c v h e =
     let f = whole c .decimal .ensures .from in
-    offset-accept v (three (start (whole c))) (whole c .decimal .ensures) (c .decimal2 .ensures) (omega arith) (omega arith)
-    (λ l z. ⊎-elim (λ q. omega arith) (λ q. q .left z) (c .before .before .before .if3 .came)) (c .before .if5 .left) h e
+    offset-accept v (three (start (whole c))) (whole c .decimal .ensures) (c .decimal2 .ensures) (omega arith)
+    (λ l z. ⊎-elim (λ q. omega arith) (λ q. q .left z) (c .before .before .before .if2 .came)) (c .before .if4 .left) h e
 
-tail : (c : tie.Else7) → OffsetTail (c .before .before .before .before .before .before .before .before .before .before .before .before .before .args .w .now) (c .before .before .before .before .before .before .before .before .before .before .before .before .before .args .digits) (c .before .before .before .before .before .before .before .before .before .before .before .decimal .result) (c .before .before .before .before .decimal2 .result)
+tail : (c : tie.Else6) → OffsetTail (c .before .before .before .before .before .before .before .before .before .before .before .before .args .w .now) (c .before .before .before .before .before .before .before .before .before .before .before .before .args .digits) (c .before .before .before .before .before .before .before .before .before .before .decimal .result) (c .before .before .before .before .decimal2 .result)
 tail c =
     let f = c .before .before .before .before .decimal2 .ensures .from in
-    record { width = omega arith; stop = shown-not (c .before .ends .result) (c .before .ends .ensures) (c .if7 .left) }
+    record { width = omega arith; stop = shown-not (c .before .ends .result) (c .before .ends .ensures) (c .if6 .left) }
 
 pub offset-field-spec : {M : Type 1} → statement M
 offset-field-spec =
@@ -54,32 +54,29 @@ offset-field-spec =
     (λ c κs. c .before .pre .0 .lined)
     (λ c κs. search needs)
     (λ c. not (c .none .ensures) (λ f rest a v p. let h = shape (c .before .before) a p in omega arith))
-    (λ c. omega (arith, here (c .before .before .before)))
+    (λ c. here (c .before .before .before .before))
+    (λ c. omega (arith, here (c .before .before .before .before .before)))
     (λ c κs. search needs)
-    (λ c. not (c .none2 .ensures) (λ f rest a v p. let h = shape (c .before .before .before) a p in omega arith))
-    (λ c. here (c .before .before .before .before .before))
-    (λ c. omega (arith, here (c .before .before .before .before .before .before)))
+    (λ c. not (c .none2 .ensures) (λ f rest a v p. shape (c .before .before .before .before .before) a p .lead (c .before .if3 .taken) (c .before .before .if2 .taken)))
+    (λ c. point (c .before .before .before .before))
     (λ c κs. search needs)
-    (λ c. not (c .none3 .ensures) (λ f rest a v p. shape (c .before .before .before .before .before .before) a p .lead (c .before .if4 .taken) (c .before .before .if3 .taken)))
-    (λ c. point (c .before .before .before .before .before))
-    (λ c κs. search needs)
-    (λ c. not (c .none4 .ensures) (λ f rest a v p. c .before .if5 .taken (shape (c .before .before .before .before .before .before .before) a p .point)))
-    (λ c. omega (arith, point (c .before .before .before .before .before .before)))
-    (λ c κs. goes-on (c .before .before .before .before .before .before .before .before .args .w .now) (c .before .before .before .before .before .before .decimal .result .end) 46 (c .before .before .before .before .before .before .decimal .ensures .lined) (c .if5 .left) (omega arith))
+    (λ c. not (c .none3 .ensures) (λ f rest a v p. c .before .if4 .taken (shape (c .before .before .before .before .before .before) a p .point)))
+    (λ c. omega (arith, point (c .before .before .before .before .before)))
+    (λ c κs. goes-on (c .before .before .before .before .before .before .before .args .w .now) (c .before .before .before .before .before .decimal .result .end) 46 (c .before .before .before .before .before .decimal .ensures .lined) (c .if4 .left) (omega arith))
     (λ c. let f = c .decimal2 .ensures .from in omega arith)
-    (λ c. omega (arith, three (c .before .before .before .before .before .before .before .before .before)))
+    (λ c. omega (arith, three (c .before .before .before .before .before .before .before .before)))
     (λ c κs. search needs)
-    (λ c. not (c .none5 .ensures) (λ f rest a v p. let h = shape (c .before .before .before .before .before .before .before .before .before) a p .tail (c .before .before .decimal2 .ensures) in c .before .if6 .taken (omega arith)))
-    (λ c. inside (c .before .before .before .before .before .before .before .before .before .before .before .args .w .now) (c .before .before .decimal2 .result .end) (c .before .before .decimal2 .ensures .lined))
+    (λ c. not (c .none4 .ensures) (λ f rest a v p. let h = shape (c .before .before .before .before .before .before .before .before) a p .tail (c .before .before .decimal2 .ensures) in c .before .if5 .taken (omega arith)))
+    (λ c. inside (c .before .before .before .before .before .before .before .before .before .before .args .w .now) (c .before .before .decimal2 .result .end) (c .before .before .decimal2 .ensures .lined))
     (λ c κs. search needs)
     (λ c κs. search needs)
-    (λ c. not (c .none6 .ensures) (λ f rest a v p.
-    refuted-not (c .before .before .ends .result) (c .before .before .ends .ensures) (c .before .if7 .taken) (shape (c .before .before .before .before .before .before .before .before .before .before .before .before) a p .tail (c .before .before .before .before .before .decimal2 .ensures) .stop)))
-    (λ c. omega (arith, scan-below (c .before .before .before .before .before .before .before .before .before .before .before .before .before .decimal .ensures)))
+    (λ c. not (c .none5 .ensures) (λ f rest a v p.
+    refuted-not (c .before .before .ends .result) (c .before .before .ends .ensures) (c .before .if6 .taken) (shape (c .before .before .before .before .before .before .before .before .before .before .before) a p .tail (c .before .before .before .before .before .decimal2 .ensures) .stop)))
+    (λ c. omega (arith, scan-below (c .before .before .before .before .before .before .before .before .before .before .before .before .decimal .ensures)))
     (λ c. omega (arith, scan-below (c .before .before .before .before .before .before .before .decimal2 .ensures)))
-    (λ c. omega (arith, scan-below (c .before .before .before .before .before .before .before .before .before .before .before .before .before .before .decimal .ensures), scan-below (c .before .before .before .before .before .before .before .decimal2 .ensures)))
-    (λ c. accepted (c .before .before .before .before .before .before .before) _ (tail (c .before .before .before)) (tenths (c .before .before .before .before .before .before .before .before .before .before .before .before .before .before .before .before .args .digits) _ _ (c .before .before .if8 .taken)))
-    (λ c. omega (arith, scan-below (c .before .before .before .before .before .before .before .before .before .before .before .before .before .decimal .ensures)))
-    (λ c. omega (arith, scan-below (c .before .before .before .before .before .before .before .before .before .before .before .before .before .before .decimal .ensures), scan-below (c .before .before .before .before .before .before .before .decimal2 .ensures)))
-    (λ c. let s = c .before .before .before .before .before .before .before .before .before .before .before .before .before .before .before .before in
-    accepted (c .before .before .before .before .before .before .before) _ (tail (c .before .before .before)) (thousandths (s .args .digits) _ _ (⊎-elim (λ q. absurd (c .before .before .if8 .left q)) (λ q. q) (s .pre .1)))))
+    (λ c. omega (arith, scan-below (c .before .before .before .before .before .before .before .before .before .before .before .before .before .decimal .ensures), scan-below (c .before .before .before .before .before .before .before .decimal2 .ensures)))
+    (λ c. accepted (c .before .before .before .before .before .before .before) _ (tail (c .before .before .before)) (tenths (c .before .before .before .before .before .before .before .before .before .before .before .before .before .before .before .args .digits) _ _ (c .before .before .if7 .taken)))
+    (λ c. omega (arith, scan-below (c .before .before .before .before .before .before .before .before .before .before .before .before .decimal .ensures)))
+    (λ c. omega (arith, scan-below (c .before .before .before .before .before .before .before .before .before .before .before .before .before .decimal .ensures), scan-below (c .before .before .before .before .before .before .before .decimal2 .ensures)))
+    (λ c. let s = c .before .before .before .before .before .before .before .before .before .before .before .before .before .before .before in
+    accepted (c .before .before .before .before .before .before .before) _ (tail (c .before .before .before)) (thousandths (s .args .digits) _ _ (⊎-elim (λ q. absurd (c .before .before .if7 .left q)) (λ q. q) (s .pre .1)))))
