@@ -1,6 +1,8 @@
 """What is wrong with a line that is no row, by Orders 1 and 3 of paper 02 over the columns of paper 01. A kind of row is a list of forms, one for each of its fields,
-and none leans on what another field holds; so fields begin a row exactly if one by one they have the first forms of some kind."""
+and none leans on what another field holds; so fields begin a row exactly if one by one they have the first forms of some kind. A form is a pattern or, where the value
+has a limit, a test."""
 import re
+import offsets
 
 BYTE = rb'[0-9A-Fa-f]{2}'
 BUS = rb'[1-9]|1[0-6]'
@@ -12,7 +14,7 @@ def row_number(number):
     """that number, or for 0, which is a first row's, any from 1 to 999,999"""
     return rb'%d\)' % number if number else rb'[1-9][0-9]{0,5}\)'
 
-def offset(digits): return rb'(?:0|[1-9][0-9]{0,10})\.[0-9]{%d}' % digits
+def offset(behind): return lambda field: offsets.read(field, behind) is not None
 
 def kinds(version, number):
     """the forms of the fields of each kind of row, and the form of any number of fields behind them, or None"""
@@ -24,11 +26,13 @@ def kinds(version, number):
     yield head + [b'Warng', b'[Ff]{8}', b'4'] + [BYTE] * 4, WORD
     yield head + [b'Error', b'000[1248]', b'4', b'0[01]', POSITION, BYTE, BYTE], None
 
+def has(field, form): return form(field) if callable(form) else re.fullmatch(form, field) is not None
+
 def goes_on(kind, i, field):
     """whether a kind of row may have this as its field i, from 1"""
     forms, more = kind
     form = forms[i - 1] if i <= len(forms) else more
-    return form is not None and re.fullmatch(form, field) is not None
+    return form is not None and has(field, form)
 
 def is_comment(line): return re.fullmatch(rb'; *(?:[^ $].*)?', line, re.S) is not None
 

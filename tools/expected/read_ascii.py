@@ -1,9 +1,9 @@
 """Telemotive ASCII lines, read back, by paper 02's Order 4 over paper 01's sentences on the export."""
 import re
 from datetime import date
+from offsets import LAST_OFFSET
 
 LAST_DAY = 99_999
-LAST_OFFSET = 99_999_999_999_999
 CHANNELS = {b'#%d' % b: b for b in range(1, 17)}
 DIRECTIONS = {b'Rx': 0, b'Tx': 1}
 

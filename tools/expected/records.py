@@ -1,11 +1,13 @@
 """The packed record, by the sentences of paper 01."""
+from offsets import LAST_OFFSET
+
 WIDTHS = (48, 5, 3, 1, 29, 4, 64, 6)
 
 def well_formed(f):
     offset, bus, kind, extended, ident, length, data = f
     b = data.to_bytes(8, 'big')
     if kind not in range(6) or bus not in range(17) or extended not in (0, 1) or length not in range(9): return False
-    if offset > 99_999_999_999_999: return False
+    if offset > LAST_OFFSET: return False
     if ident > (0x1FFFFFFF if extended else 0x7FF): return False
     if any(b[length:]): return False
     if kind in (2, 3) and any(b): return False

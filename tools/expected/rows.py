@@ -1,5 +1,6 @@
 """Rows, by the columns of paper 01 and its sentences on writing."""
 import re
+import offsets
 
 LAST_NUMBER = 999_999
 
@@ -35,9 +36,8 @@ def row(version, k, line):
     if len(line) > 250 or version not in (11, 12): return None
     f = [x for x in line.split(b' ') if x]
     if len(f) < 2 or f[0] != b'%d)' % k or not 1 <= k <= LAST_NUMBER: return None
-    m = re.fullmatch(rb'(0|[1-9][0-9]{0,10})\.([0-9]{%d})' % (1 if version == 11 else 3), f[1])
-    if not m: return None
-    offset = int(m[1]) * 1000 + int(m[2].ljust(3, b'0'))
+    offset = offsets.read(f[1], 1 if version == 11 else 3)
+    if offset is None: return None
     rest, bus = f[2:], 0
     if version == 12:
         bus = decimal(rest[0]) if rest else None
