@@ -152,10 +152,10 @@ for family in open(sys.argv[1], encoding='ascii').read().split('\n'):
     for n in range(int(first), int(last) + 1):
         lines.append(shown(fill(line, n, '%')) + ' -> ' + answer(fill(line, n, plain(given, n))))
 
-# The paper's small trace, its limits, the errors that look right, what Order 1 says of a line, Order 3 of first numbers, and Order 4 of lines that are read
-# back: how these lines begin. The answers are the papers'; where they print none, as for the start near a half (3,160,952,640,065.49984 before rounding), for
-# the bits of a record, for the fields of Order 1, for the bytes of Order 3 and for the starts and offsets of Order 4 (10^14 is 5AF3107A4000), they were worked
-# out by hand.
+# The paper's small trace, its limits, the errors that look right, what Order 1 says of a line, Order 3 of first numbers, Order 4 of lines that are read back,
+# and Order 5 of offsets: how these lines begin. The answers are the papers'; where they print none, as for the start near a half (3,160,952,640,065.49984 before
+# rounding), for the bits of a record, for the fields of Order 1, for the bytes of Order 3, for the starts and offsets of Order 4 and for the rows, bits and stamps
+# at the limit of Order 5 (which is twelve F, and 55 past a multiple of 100; 10^14 is 5AF3107A4000), they were worked out by hand.
 
 PAPER = r'''
 read room 100 small trace: %1) 0.000 1 Rx 0123 2 0A FF\r\n2) 1500.250 2 Tx 18AB0001 0\r\n3) 1500.249 1 Rx 0124 3 RTR\r\n -> 0 0 12 3160987200000 3 3 1 000000000000080000048c82bfc0000000000000
@@ -335,9 +335,11 @@ ascii room 100 first stamp with 9 tenths of a millisecond: 29.02.2000 12:00:00.0
 return room 300 first stamp with 9 tenths of a millisecond: 29.02.2000 12:00:00.0009% -> 0 0 44 1 0 29.02.2000 12:00:00.0009 CAN #1 | Rx 123 0\r\n untouched 0 0 3160987200000 1 000000000384080000048c000000000000000000 untouched
 ascii room 100 second stamp 0.9 ms before, at the start: 29.02.2000 12:00:00.0009%29.02.2000 12:00:00.0000% -> 0 0 3160987200000 2 000000000384080000048c000000000000000000000000000000080000048c000000000000000000 untouched
 ascii room 100 second stamp 0.1 ms before the start: 29.02.2000 12:00:00.0019%29.02.2000 12:00:00.0009% -> 32 2 0 0 untouched
-ascii room 100 offset at the limit: 30.12.1899 00:00:00.0000%02.03.1903 09:46:39.9999% -> 0 0 0 2 000000000000080000048c0000000000000000005af3107a3f9c080000048c000000000000000000 untouched
-ascii room 100 offset past the limit: 30.12.1899 00:00:00.0000%02.03.1903 09:46:40.0000% -> 33 2 0 0 untouched
-ascii room 100 the last stamp of all, at the limit: 13.08.2170 14:13:20.0000%13.10.2173 23:59:59.9999% -> 0 0 8540000000000 2 000000000000080000048c0000000000000000005af3107a3f9c080000048c000000000000000000 untouched
+ascii room 100 offset at the limit: 30.12.1899 00:00:00.0000%30.11.1908 19:29:36.7106% -> 0 0 0 2 000000000000080000048c000000000000000000ffffffffffc8080000048c000000000000000000 untouched
+ascii room 100 offset past the limit: 30.12.1899 00:00:00.0000%30.11.1908 19:29:36.7107% -> 33 2 0 0 untouched
+ascii room 100 a late stamp, at the limit: 12.11.2164 04:30:23.2890%13.10.2173 23:59:59.9996% -> 0 0 8358525023289 2 000000000000080000048c000000000000000000ffffffffffc8080000048c000000000000000000 untouched
+ascii room 100 the last stamp of all, past the limit: 12.11.2164 04:30:23.2899%13.10.2173 23:59:59.9999% -> 33 2 0 0 untouched
+ascii room 100 the first of twelve digits of milliseconds: 30.12.1899 00:00:00.0000%02.03.1903 09:46:40.0000% -> 0 0 0 2 000000000000080000048c0000000000000000005af3107a4000080000048c000000000000000000 untouched
 ascii room 100 31 on a line before the start: 29.02.2000 12:00:00.0000%28.02.2000 12:00:00.0000 CAN #17 | Rx 123 0\r\n -> 31 2 0 0 untouched
 ascii room 100 32 at line 2 before 33 at line 3: 29.02.2000 12:00:00.0000%28.02.2000 12:00:00.0000%29.02.2012 12:00:00.0000% -> 32 2 0 0 untouched
 ascii room 100 33 at line 2 before 32 at line 3: 29.02.2000 12:00:00.0000%29.02.2012 12:00:00.0000%28.02.2000 12:00:00.0000% -> 33 2 0 0 untouched

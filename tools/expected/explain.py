@@ -1,4 +1,4 @@
-"""What is wrong with a line that is no row, by Orders 1 and 3 of paper 02 over the columns of paper 01. A kind of row is a list of forms, one for each of its fields,
+"""What is wrong with a line that is no row, by Orders 1, 3 and 5 of paper 02 over the columns of paper 01. A kind of row is a list of forms, one for each of its fields,
 and none leans on what another field holds; so fields begin a row exactly if one by one they have the first forms of some kind. A form is a pattern or, where the value
 has a limit, a test."""
 import re

@@ -1,7 +1,7 @@
-"""The offset, by paper 01's second column."""
+"""The offset, by paper 01's second column with the limit of paper 02's Order 5: the whole of the 48 bits that a record has for it."""
 import re
 
-LAST_OFFSET = 99_999_999_999_999
+LAST_OFFSET = 281_474_976_710_655
 MOST_DIGITS = len(str(LAST_OFFSET // 1000))
 
 def read(field, behind):

@@ -1,4 +1,4 @@
-"""Telemotive ASCII lines, read back, by paper 02's Order 4 over paper 01's sentences on the export."""
+"""Telemotive ASCII lines, read back, by paper 02's Orders 4 and 5 over paper 01's sentences on the export."""
 import re
 from datetime import date
 from offsets import LAST_OFFSET

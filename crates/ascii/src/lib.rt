@@ -14,6 +14,7 @@ use records::whole;
 ghost use mathlib.Core.Path.{_≡_};
 ghost use Prim.Native.Nat.{_+_, _/_, _≤_, _<_, _^_};
 ghost use lib.ListN.{length};
+ghost use Rattle.base.specs.Limits.{offsetLimit};
 ghost use Rattle.digits.specs.inner.Pairs.{PairsOf};
 ghost use Rattle.clock.specs.Start.{startLimit};
 ghost use Rattle.clock.specs.declared.DateTime.{DateTime as AnyStamp};
@@ -108,7 +109,7 @@ fn measure_lines(records: &[u8]) -> Measured
 
 // How many times 100 microseconds from the beginning of day 0 a start and an offset are.
 fn ticks_of(start: u64, offset: u64) -> u64
-    requires { ⌜ (start ≤ startLimit) × (offset < 2 ^ 48) ⌝ }
+    requires { ⌜ (start ≤ startLimit) × (offset ≤ offsetLimit) ⌝ }
     ensures { λ n. ⌜ n ≡ ticksOf start offset ⌝ }
 {
     (start * 1000 + offset) / 100
@@ -117,7 +118,7 @@ fn ticks_of(start: u64, offset: u64) -> u64
 // Puts the bytes of a stamp up to its point. Called from two places, it stays a call, and the twenty bytes stay in memory, where they are copied at
 // once: inlined, they would be twenty values that are put one by one.
 fn show(head: &mut [u8; 20], start: u64, offset: u64)
-    requires { ⌜ (start ≤ startLimit) × (offset < 2 ^ 48) ⌝ }
+    requires { ⌜ (start ≤ startLimit) × (offset ≤ offsetLimit) ⌝ }
     ensures { λ _. ⌜ Shows (now (head .exit)) (ticksOf start offset / 10000) ⌝ }
 {
     put_second(head, stamp_of(start, offset));
@@ -125,7 +126,7 @@ fn show(head: &mut [u8; 20], start: u64, offset: u64)
 
 // The same, unless those that stand there are of the same second.
 fn renew_second(head: &mut [u8; 20], last: u64, second: u64, start: u64, offset: u64)
-    requires { ⌜ Shows (now head) last × (start ≤ startLimit) × (offset < 2 ^ 48) × (second ≡ ticksOf start offset / 10000) ⌝ }
+    requires { ⌜ Shows (now head) last × (start ≤ startLimit) × (offset ≤ offsetLimit) × (second ≡ ticksOf start offset / 10000) ⌝ }
     ensures { λ _. ⌜ Shows (now (head .exit)) second ⌝ }
 {
     if second != last {

@@ -3,8 +3,8 @@ use Prim.Native.Nat.{ℕ}
 
 -- The most digits of an offset's milliseconds.
 abbrev pub offsetDigits : ℕ
-offsetDigits = 11
+offsetDigits = 12
 
--- The largest offset, in microseconds: eleven digits of milliseconds and three of their fraction.
+-- The largest offset, in microseconds: the whole of the 48 bits that a record has for it.
 abbrev pub offsetLimit : ℕ
-offsetLimit = 99999999999999
+offsetLimit = 281474976710655

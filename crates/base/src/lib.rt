@@ -7,10 +7,10 @@ ghost use Rattle.base.specs.Text.{cr, lf};
 ghost use Rattle.base.specs.inner.Wrote.{Wrote};
 
 // The most digits of an offset's milliseconds.
-pub const OFFSET_DIGITS: usize = 11;
+pub const OFFSET_DIGITS: usize = 12;
 
-// The largest offset, in microseconds: eleven digits of milliseconds and three of their fraction.
-pub const OFFSET_LIMIT: u64 = 99_999_999_999_999;
+// The largest offset, in microseconds: the whole of the 48 bits that a record has for it.
+pub const OFFSET_LIMIT: u64 = 281_474_976_710_655;
 
 // A byte as a number. A read through it asks only for the index, where a cast would ask for the byte's range too.
 pub fn wide(b: u8) -> u64

@@ -1,4 +1,5 @@
 // Cases of time: starts, day fractions, dates and stamps.
+use base::OFFSET_LIMIT;
 use clock::CalendarDay;
 use clock::DayTime;
 use clock::START_LIMIT;
@@ -75,7 +76,7 @@ fn stamp(start: u64, offset: u64) {
     if START_LIMIT < start {
         return none();
     }
-    if 281474976710655 < offset {
+    if OFFSET_LIMIT < offset {
         return none();
     }
     let s = stamp_of(start, offset);

@@ -5,10 +5,9 @@ use native.Mathlib.Omega.{arith}
 use Rattle.base.proofs.Numbers.{parts}
 use Rattle.clock.specs.declared.DayTime.{DayTime}
 use Rattle.clock.specs.declared.DateTime.{DateTime}
-use Rattle.clock.specs.Start.{startLimit}
 use Rattle.clock.specs.Stamp.{ticks, Time, Stamp}
 use Rattle.clock.proofs.Quotients.{one-bracket}
-use Rattle.clock.proofs.Dates.{one-date, some-date, small-day, small-year}
+use Rattle.clock.proofs.Dates.{one-date, some-date}
 
 -- A start and an offset give one time.
 pub one-time : {start offset : ℕ} {t u : DayTime} → Time start offset t → Time start offset u → t ≡ u
@@ -57,10 +56,3 @@ some-stamp start offset =
     let t = some-time start offset in
     let d = some-date (t .0 .days) in
     (record { date = d .0; time = t .0 }, record { time = t .1; date = d .1 })
-
--- The parts of a stamp have two digits at most, its year four.
-pub small-stamp : {start offset : ℕ} {s : DateTime} → start ≤ startLimit → offset < 2 ^ 48 → Stamp start offset s
-    → (s .date .day ≤ 31) × (s .date .month ≤ 12) × (s .date .year < 10000)
-small-stamp {start} {offset} {s} h k a =
-    let d : s .time .days ≤ 130000 = omega (arith, a .time) in
-    (small-day (a .date), a .date .calendar .last-month, small-year d (a .date))

@@ -1,6 +1,7 @@
 // Time, in whole numbers: starts, day fractions, dates and stamps.
 ghost use mathlib.Core.Path.{_≡_};
 ghost use Prim.Native.Nat.{_+_, _*_, _-_, _^_, _≤_, _<_};
+ghost use Rattle.base.specs.Limits.{offsetLimit};
 ghost use Rattle.base.specs.inner.Decides.{Decides};
 ghost use Rattle.clock.specs.Start.{dayMs, startLimit, Start, DayFraction};
 ghost use Rattle.clock.specs.Date.{leap, monthDays, before, beforeYear, Date};
@@ -257,7 +258,7 @@ pub fn day_of(d: CalendarDay) -> u64
 
 // The time that a start and an offset give, cut down to 100 microseconds.
 fn time_of(start: u64, offset: u64) -> DayTime
-    requires { ⌜ (start ≤ startLimit) × (offset < 2 ^ 48) ⌝ }
+    requires { ⌜ (start ≤ startLimit) × (offset ≤ offsetLimit) ⌝ }
     ensures { λ r. ⌜ Time start offset r ⌝ }
 {
     let ticks = (start * 1000 + offset) / 100;
@@ -275,7 +276,7 @@ fn time_of(start: u64, offset: u64) -> DayTime
 
 // The stamp that a start and an offset give.
 pub fn stamp_of(start: u64, offset: u64) -> DateTime
-    requires { ⌜ (start ≤ startLimit) × (offset < 2 ^ 48) ⌝ }
+    requires { ⌜ (start ≤ startLimit) × (offset ≤ offsetLimit) ⌝ }
     ensures { λ r. ⌜ Stamp start offset r ⌝ }
 {
     let time = time_of(start, offset);

@@ -7,8 +7,6 @@ use native.Mathlib.Nat.{mul-le-mul-right, one-le-pow, add-zero}
 use native.Mathlib.Numerals.{add-one}
 use native.Mathlib.Omega.{arith}
 use native.Mathlib.Decide.{ℕ-discrete}
-use lib.Arith.{digits-lt}
-use lib.Pow.{pow-add}
 use lib.ListN.{length, getD, drop, List·getD-append}
 use lib.Seq.{slice, length-slice, getD-drop}
 use Rattle.base.specs.Limits.{offsetDigits, offsetLimit}
@@ -222,6 +220,7 @@ hex-accept {w} {at} {s} c h =
 pub record OffsetTail (w : List ℕ) (digits : ℕ) (s t : Scan) : Type 0 where
   pub width : t .end ≡ s .end + 1 + digits
   pub stop : End (getD w (t .end) 0)
+  pub within : s .value * 1000 + t .value * 10 ^ (3 - digits) ≤ offsetLimit
 
 pub record OffsetShape (w : List ℕ) (at digits : ℕ) (s : Scan) : Type 0 where
   pub some : at < s .end
@@ -244,22 +243,18 @@ offset-shape {w} {at} {digits} {v} {s} {f} {rest} m c a p =
       point = h .1;
       tail = λ {t} d.
           let x = found decimal d rest (p .second .digits) (omega arith) (digit-stops decimal-solid (a .stops)) (h .2) in
-          record { width = omega arith; stop = ended w (t .end) (d .lined) (rw (x .behind) (a .stops)) };
+          record {
+            width = omega arith;
+            stop = ended w (t .end) (d .lined) (rw (x .behind) (a .stops));
+            within = rw (o .value, x .value, ← (p .value)) (p .limit);
+          };
     }
 
--- Eleven digits of milliseconds, and w of their fraction, are within the largest offset.
-offset-within : (w m n : ℕ) → w ≤ 3 → m < 10 ^ offsetDigits → n < 10 ^ w → m * 1000 + n * 10 ^ (3 - w) ≤ offsetLimit
-offset-within w m n l h k =
-    let e : w + (3 - w) ≡ 3 = omega arith in
-    let c : 10 ^ w * 10 ^ (3 - w) ≡ 10 ^ 3 = sym (pow-add 10 w (3 - w)) ∙ ap (λ (k : ℕ). 10 ^ k) e in
-    let f = digits-lt k (one-le-pow (3 - w) 10 (omega arith)) in
-    omega arith
-
-pub offset-accept : {w : List ℕ} {at digits : ℕ} {s t : Scan} (v : ℕ) → digits ≤ 3 → Scanned DecimalDigit 10 offsetDigits w at s
+pub offset-accept : {w : List ℕ} {at digits : ℕ} {s t : Scan} (v : ℕ) → Scanned DecimalDigit 10 offsetDigits w at s
     → Scanned DecimalDigit 10 offsetDigits w (s .end + 1) t → at < s .end → (at + 1 < s .end → getD w at 0 ≢ 48)
     → getD w (s .end) 0 ≡ 46 → OffsetTail w digits s t → v ≡ s .value * 1000 + t .value * 10 ^ (3 - digits)
     → Takes (OffsetField digits) w at (record { end = t .end; value = v })
-offset-accept {w} {at} {digits} {s} {t} v three c d some z point h e =
+offset-accept {w} {at} {digits} {s} {t} v c d some z point h e =
     let l = inside w (t .end) (d .lined) in
     let f = d .from in
     let b : Solid 46 = record { blank = λ q. omega arith; end = λ q. omega arith } in
@@ -277,12 +272,5 @@ offset-accept {w} {at} {digits} {s} {t} v three c d some z point h e =
       short = omega (arith, size c);
       second = record { digits = d .digits; width = omega (arith, length-slice (s .end + 1) (t .end) w (omega arith), h .width) };
       value = e;
-      limit = rw e (offset-within digits (s .value) (t .value) three (scan-below c) (scan-within d digits (omega (arith, h .width))));
+      limit = rw e (h .within);
     })
-
--- The digits behind the point as microseconds.
-pub tenths : (d m n : ℕ) → d ≡ 1 → m * 1000 + n * 100 ≡ m * 1000 + n * 10 ^ (3 - d)
-tenths d m n e = rw e refl
-
-pub thousandths : (d m n : ℕ) → d ≡ 3 → m * 1000 + n ≡ m * 1000 + n * 10 ^ (3 - d)
-thousandths d m n e = rw e (omega arith)

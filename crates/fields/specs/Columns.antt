@@ -21,7 +21,7 @@ pub record NumberField (k : ℕ) (f : List ℕ) : Type 0 where
   pub low : 1 ≤ k
   pub high : k ≤ lastNumber
 
--- Offset in milliseconds, kept as microseconds: 1 to 11 digits, no leading zero unless it is a lone 0, a point, then exactly w digits; at most
+-- Offset in milliseconds, kept as microseconds: 1 to 12 digits, no leading zero unless it is a lone 0, a point, then exactly w digits; at most
 -- the largest offset.
 pub record OffsetField (w offset : ℕ) (f : List ℕ) : Type 0 where
   pub whole : List ℕ

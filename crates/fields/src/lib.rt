@@ -1,12 +1,13 @@
 // Skips the gap before a field of the window, and reads single fields of it. A field is read without searching its end first: what stops its digits must end it.
 // Each reader takes the window as a slice first, `bytes`: a proof learns the length of an array behind a reference in no other way.
 use base::OFFSET_DIGITS;
+use base::OFFSET_LIMIT;
 use base::wide;
 use digits::hex_digit;
 ghost use mathlib.Core.Path.{_≡_};
 ghost use mathlib.Core.Logic.{_⊎_};
 ghost use mathlib.Core.List.{[], _∷_};
-ghost use Prim.Native.Nat.{_<_};
+ghost use Prim.Native.Nat.{_*_, _-_, _^_, _≤_, _<_};
 ghost use lib.ListN.{length, getD, drop};
 ghost use Rattle.base.specs.Limits.{offsetDigits};
 ghost use Rattle.base.specs.inner.Decides.{Decides};
@@ -155,7 +156,18 @@ pub fn number_field(w: &[u8; WINDOW], at: usize) -> Scan
     }
 }
 
-// An offset with so many digits behind its point, as microseconds.
+// The digits behind the point of an offset, as microseconds.
+fn micros(part: u64, digits: usize) -> u64
+    requires { ⌜ (part < 10 ^ offsetDigits) × ((digits ≡ 1) ⊎ (digits ≡ 3)) ⌝ }
+    ensures { λ r. ⌜ (r ≡ part * 10 ^ (3 - digits)) × (r ≤ part * 100) ⌝ }
+{
+    if digits == 1 {
+        return part * 100;
+    }
+    part
+}
+
+// An offset with so many digits behind its point, as microseconds. Its digits can say more than the largest offset.
 pub fn offset_field(w: &[u8; WINDOW], at: usize, digits: usize) -> Scan
     requires { ⌜ Starts (now w) at × ((digits ≡ 1) ⊎ (digits ≡ 3)) ⌝ }
     ensures { λ s. ⌜ Takes (OffsetField digits) (now (w .entry)) at s ⌝ }
@@ -182,16 +194,11 @@ pub fn offset_field(w: &[u8; WINDOW], at: usize, digits: usize) -> Scan
     if !ends(bytes[f]) {
         return none();
     }
-    if digits == 1 {
-        return Scan {
-            end: f,
-            value: s.value * 1000 + t.value * 100,
-        };
+    let value = s.value * 1000 + micros(t.value, digits);
+    if OFFSET_LIMIT < value {
+        return none();
     }
-    Scan {
-        end: f,
-        value: s.value * 1000 + t.value,
-    }
+    Scan { end: f, value }
 }
 
 // A bus.

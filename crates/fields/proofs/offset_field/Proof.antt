@@ -1,6 +1,6 @@
 -- `fields::offset_field` refuses no offset: each test holds of any (`offset-shape`).
 use Prim.Native.Nat.{ℕ, _+_, _*_, _-_, _^_, _≤_, _<_}
-use mathlib.Core.Path.{_≡_}
+use mathlib.Core.Path.{_≡_, ap}
 use mathlib.Core.Logic.{⊎-elim}
 use mathlib.Core.List.{List}
 use native.Mathlib.Omega.{arith}
@@ -10,7 +10,7 @@ use Rattle.fields.specs.Columns.{OffsetField}
 use Rattle.fields.specs.inner.Window.{FieldAt, Takes, not}
 use Rattle.base.proofs.Tests.{shown-not, refuted-not}
 use Rattle.fields.proofs.Window.{inside}
-use Rattle.fields.proofs.DigitFields.{goes-on, OffsetTail, OffsetShape, offset-shape, offset-accept, scan-below, tenths, thousandths}
+use Rattle.fields.proofs.DigitFields.{goes-on, OffsetTail, OffsetShape, offset-shape, offset-accept, scan-below}
 use Rattle.fields.proofs.offset_field.Statement.{statement}
 use Rattle.fields.proofs.offset_field.Tie as tie
 
@@ -34,18 +34,22 @@ shape : (c : tie.After-decimal) {v : ℕ} {f rest : List ℕ} → FieldAt f rest
     → OffsetField (start c .args .digits) v f → OffsetShape (start c .args .w .now) (start c .args .at) (start c .args .digits) (c .decimal .result)
 shape c a p = offset-shape (three (start c)) (c .decimal .ensures) a p
 
-accepted : (c : tie.After-decimal2) (v : ℕ) → OffsetTail (start (whole c) .args .w .now) (start (whole c) .args .digits) (whole c .decimal .result) (c .decimal2 .result)
-    → v ≡ whole c .decimal .result .value * 1000 + c .decimal2 .result .value * 10 ^ (3 - start (whole c) .args .digits)
-    → Takes (OffsetField (start (whole c) .args .digits)) (start (whole c) .args .w .now) (start (whole c) .args .at) (record { end = c .decimal2 .result .end; value = v })
-accepted c v h e =
-    let f = whole c .decimal .ensures .from in
-    offset-accept v (three (start (whole c))) (whole c .decimal .ensures) (c .decimal2 .ensures) (omega arith)
-    (λ l z. ⊎-elim (λ q. omega arith) (λ q. q .left z) (c .before .before .before .if2 .came)) (c .before .if4 .left) h e
+-- what was scanned on both sides of the point, and the digits behind it as microseconds
+abbrev part : tie.After-micros → tie.After-decimal2
+part c = c .before .before .before .before .before .before
 
-tail : (c : tie.Else6) → OffsetTail (c .before .before .before .before .before .before .before .before .before .before .before .before .args .w .now) (c .before .before .before .before .before .before .before .before .before .before .before .before .args .digits) (c .before .before .before .before .before .before .before .before .before .before .decimal .result) (c .before .before .before .before .decimal2 .result)
+sum : (c : tie.After-micros) → whole (part c) .decimal .result .value * 1000 + c .micros .result
+    ≡ whole (part c) .decimal .result .value * 1000 + part c .decimal2 .result .value * 10 ^ (3 - start (whole (part c)) .args .digits)
+sum c = ap (λ (n : ℕ). whole (part c) .decimal .result .value * 1000 + n) (c .micros .ensures .0)
+
+tail : (c : tie.Else7) → OffsetTail (c .before .before .before .before .before .before .before .before .before .before .before .before .before .before .before .args .w .now) (c .before .before .before .before .before .before .before .before .before .before .before .before .before .before .before .args .digits) (c .before .before .before .before .before .before .before .before .before .before .before .before .before .decimal .result) (c .before .before .before .before .before .before .before .decimal2 .result)
 tail c =
-    let f = c .before .before .before .before .decimal2 .ensures .from in
-    record { width = omega arith; stop = shown-not (c .before .ends .result) (c .before .ends .ensures) (c .if6 .left) }
+    let f = c .before .before .before .before .before .before .before .decimal2 .ensures .from in
+    record {
+      width = omega arith;
+      stop = shown-not (c .before .before .before .before .ends .result) (c .before .before .before .before .ends .ensures) (c .before .before .before .if6 .left);
+      within = rw (← (sum (c .before))) (omega arith);
+    }
 
 pub offset-field-spec : {M : Type 1} → statement M
 offset-field-spec =
@@ -72,11 +76,15 @@ offset-field-spec =
     (λ c κs. search needs)
     (λ c. not (c .none5 .ensures) (λ f rest a v p.
     refuted-not (c .before .before .ends .result) (c .before .before .ends .ensures) (c .before .if6 .taken) (shape (c .before .before .before .before .before .before .before .before .before .before .before) a p .tail (c .before .before .before .before .before .decimal2 .ensures) .stop)))
-    (λ c. omega (arith, scan-below (c .before .before .before .before .before .before .before .before .before .before .before .before .decimal .ensures)))
-    (λ c. omega (arith, scan-below (c .before .before .before .before .before .before .before .decimal2 .ensures)))
-    (λ c. omega (arith, scan-below (c .before .before .before .before .before .before .before .before .before .before .before .before .before .decimal .ensures), scan-below (c .before .before .before .before .before .before .before .decimal2 .ensures)))
-    (λ c. accepted (c .before .before .before .before .before .before .before) _ (tail (c .before .before .before)) (tenths (c .before .before .before .before .before .before .before .before .before .before .before .before .before .before .before .args .digits) _ _ (c .before .before .if7 .taken)))
-    (λ c. omega (arith, scan-below (c .before .before .before .before .before .before .before .before .before .before .before .before .decimal .ensures)))
-    (λ c. omega (arith, scan-below (c .before .before .before .before .before .before .before .before .before .before .before .before .before .decimal .ensures), scan-below (c .before .before .before .before .before .before .before .decimal2 .ensures)))
-    (λ c. let s = c .before .before .before .before .before .before .before .before .before .before .before .before .before .before .before in
-    accepted (c .before .before .before .before .before .before .before) _ (tail (c .before .before .before)) (thousandths (s .args .digits) _ _ (⊎-elim (λ q. absurd (c .before .before .if7 .left q)) (λ q. q) (s .pre .1)))))
+    (λ c. omega (arith, scan-below (c .before .before .before .before .before .before .before .before .before .before .before .decimal .ensures)))
+    (λ c κs. (scan-below (c .before .before .before .before .before .decimal2 .ensures), c .before .before .before .before .before .before .before .before .before .before .before .before .before .pre .1))
+    (λ c. omega (arith, scan-below (c .before .before .before .before .before .before .before .before .before .before .before .before .decimal .ensures), scan-below (c .before .before .before .before .before .before .decimal2 .ensures), c .micros .ensures .1))
+    (λ c κs. search needs)
+    (λ c. not (c .none6 .ensures) (λ f rest a v p.
+    let h = shape (c .before .before .before .before .before .before .before .before .before .before .before .before .before .before) a p .tail (c .before .before .before .before .before .before .before .before .decimal2 .ensures) .within in
+    let g = rw (← (sum (c .before .before))) at h in
+    omega arith))
+    (λ c.
+    let f = c .before .before .before .before .before .before .before .before .before .before .before .before .before .decimal .ensures .from in
+    offset-accept _ (c .before .before .before .before .before .before .before .before .before .before .before .before .before .decimal .ensures) (c .before .before .before .before .before .before .before .decimal2 .ensures) (omega arith)
+    (λ l z. ⊎-elim (λ q. omega arith) (λ q. q .left z) (c .before .before .before .before .before .before .before .before .before .before .if2 .came)) (c .before .before .before .before .before .before .before .before .if4 .left) (tail c) (sum (c .before))))
