@@ -63,7 +63,7 @@ zero-as-one {f = f} {fs = fs} {v = v} h b (wrong {i = i} u x w e) = let z : i �
 zero-as-one h b (early u x w e) = let z : _≡_ {A = ℕ} 1 2 = cc in omega arith
 
 -- Behind some fields of a line stands one with which no row goes on: that is the wrong one.
-behind : {line : List ℕ} {v k : ℕ} (fs : List (List ℕ)) (f : List ℕ) (gs : List (List ℕ)) → Parted (fs ++ (f ∷ gs)) line → BeginsRow v k fs
+pub behind : {line : List ℕ} {v k : ℕ} (fs : List (List ℕ)) (f : List ℕ) (gs : List (List ℕ)) → Parted (fs ++ (f ∷ gs)) line → BeginsRow v k fs
     → ((j : ℕ) (r : Record) (hs : List (List ℕ)) → Row.RowFields v j r (fs ++ (f ∷ hs)) → ⊥) → WrongField v k line (length fs + 1)
 behind {v = v} {k = k} fs f gs p b n =
     let z : length fs + 1 - 1 ≡ length fs = omega arith in

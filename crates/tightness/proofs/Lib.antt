@@ -3,6 +3,8 @@ pub mod Entry
 pub mod Explaining
 pub mod Exporters
 pub mod Lines
+pub mod LongOffsets
+pub mod OldLimit
 pub mod Whole
 pub mod Lost
 pub mod Numbers

@@ -43,7 +43,7 @@ pub another-first : {v j k : ℕ} {r : Record} {line : List ℕ} → Row.Row v j
 another-first w d p = d (sym (number-of p w (Row.any refl)))
 
 -- A row was found: its record's fields stand in `out`.
-found : {v k at e : ℕ} {line out : List ℕ} → RowFound v k at line out e → e ≢ 0 → (r : Record) × Row.Row v k r line × (out ≡ fieldsOf r)
+pub found : {v k at e : ℕ} {line out : List ℕ} → RowFound v k at line out e → e ≢ 0 → (r : Record) × Row.Row v k r line × (out ≡ fieldsOf r)
 found (row-found {r = r} w o e) n = (r, w, o)
 found (no-row e f) n = absurd (n e)
 

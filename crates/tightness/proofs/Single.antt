@@ -6,12 +6,14 @@ use mathlib.Core.List.{List, [], _∷_, _++_}
 use native.Mathlib.Omega.{arith}
 use mathlib.Core.Bool.{true, false}
 use lib.ListN.{length, getD, drop}
+use Rattle.base.specs.Limits.{offsetLimit}
 use Rattle.base.specs.inner.Decides.{Decides}
 use Rattle.digits.specs.Digits.{DecimalDigit, Digits, HexDigit, capital, small, figure, letter, none, more, Hex}
 use Rattle.digits.specs.inner.Answer.{ReadDecimal, ReadPadded, ReadHex}
 use Rattle.digits.specs.declared.Letters.the-variants.{Capital as CapitalLetters}
 use Rattle.digits.specs.House.{glyphOf, paddedText, hexText, fixed}
 use Rattle.clock.specs.declared.DateTime.{DateTime}
+use Rattle.clock.specs.Start.{startLimit}
 use Rattle.clock.specs.Stamp.{Stamp}
 use Rattle.record.specs.declared.Record.{Record}
 use Rattle.record.specs.Record.{recordOf, number, ErrorId, one, two, four, eight}
@@ -92,7 +94,7 @@ not-twenty-taken (inr h) (malformed n f e) = omega arith
 -- clock
 
 -- the last stamp is not wrapped to day 0
-pub last-stamp-wrapped : {s : DateTime} → Stamp 8639999999999 99999999999999 s → s .time .days ≡ 0 → ⊥
+pub last-stamp-wrapped : {s : DateTime} → Stamp startLimit offsetLimit s → s .time .days ≡ 0 → ⊥
 last-stamp-wrapped p e = let t = p .time in omega (arith, t .high, t .hour, t .minute, t .second, t .part)
 
 -- 13 o'clock is not 1, its hour modulo 12
