@@ -344,6 +344,20 @@ ascii room 100 31 on a line before the start: 29.02.2000 12:00:00.0000%28.02.200
 ascii room 100 32 at line 2 before 33 at line 3: 29.02.2000 12:00:00.0000%28.02.2000 12:00:00.0000%29.02.2012 12:00:00.0000% -> 32 2 0 0 untouched
 ascii room 100 33 at line 2 before 32 at line 3: 29.02.2000 12:00:00.0000%29.02.2012 12:00:00.0000%28.02.2000 12:00:00.0000% -> 33 2 0 0 untouched
 ascii room 0 32 before a short room: 29.02.2000 12:00:00.0000%28.02.2000 12:00:00.0000% -> 32 2 0 0 untouched
+read room 100 offset 281474976710.655: %1) 281474976710.655 1 Rx 0123 0\r\n -> 0 0 12 3160987200000 1 0 1 ffffffffffff080000048c000000000000000000 untouched
+read room 100 offset 281474976710.656: %1) 281474976710.656 1 Rx 0123 0\r\n -> 7 3 0 0 0 0 0 untouched
+read room 100 offset 281474976710.6: ;$FILEVERSION=1.1\r\n;$STARTTIME=36585.5\r\n1) 281474976710.6 Rx 0123 0\r\n -> 0 0 11 3160987200000 1 0 1 ffffffffffc8000000048c000000000000000000 untouched
+read room 100 offset 281474976710.7: ;$FILEVERSION=1.1\r\n;$STARTTIME=36585.5\r\n1) 281474976710.7 Rx 0123 0\r\n -> 7 3 0 0 0 0 0 untouched
+read room 100 offset 100000000000: %1) 100000000000.000 1 Rx 0123 0\r\n -> 0 0 12 3160987200000 1 0 1 5af3107a4000080000048c000000000000000000 untouched
+read room 100 offset 140737488355.328: %1) 140737488355.328 1 Rx 0123 0\r\n -> 0 0 12 3160987200000 1 0 1 800000000000080000048c000000000000000000 untouched
+read room 100 offset 999999999999.999: %1) 999999999999.999 1 Rx 0123 0\r\n -> 7 3 0 0 0 0 0 untouched
+read room 100 offset 1000000000000.000: %1) 1000000000000.000 1 Rx 0123 0\r\n -> 7 3 0 0 0 0 0 untouched
+read room 100 offset of a zero and 11 nines: %1) 099999999999.999 1 Rx 0123 0\r\n -> 7 3 0 0 0 0 0 untouched
+read room 100 row 1 at the limit, row 2 at 0: %1) 281474976710.655 1 Rx 0123 0\r\n2) 0.000 1 Rx 0123 0\r\n -> 0 0 12 3160987200000 2 2 1 ffffffffffff080000048c000000000000000000000000000000080000048c000000000000000000 untouched
+row version 12 number 1: 1) 281474976710.655 1 Rx 0123 0 -> 281474976710655 1 0 0 291 0 0000000000000000
+row version 12 number 1: 1) 281474976711.000 1 Rx 0123 0 -> none
+row version 11 number 1: 1) 281474976710.655 Rx 0123 0 -> none
+again room 300 at the limit: %1) 281474976710.655 1 Rx 0123 2 0A FF\r\n2) 140737488355.328 2 Tx 18AB0001 0\r\n3) 100000000000.000 1 Rx 0124 3 RTR\r\n -> 0 0 162 ;$FILEVERSION=1.2\r\n;$STARTTIME=36585.5000000000\r\n1) 281474976710.655 1 Rx 0123 2 0A FF\r\n2) 140737488355.328 2 Tx 18AB0001 0\r\n3) 100000000000.000 1 Rx 0124 3 RTR\r\n untouched 0 0 12 3160987200000 3 2 1 ffffffffffff080000048c82bfc0000000000000
 '''
 LONG = [r'read room 100 comment with %d x: %%;%s\r\n -> %s' % (x, 'x' * x, said) for x, said in ((249, '0 0 12'), (250, '3 3 0 0 0 0 0'))]
 LONG += ['explain version 12 number 1: 1) 0.000 1 Rx 0123 %d%s -> %s' % (n, ' ' * 232, said) for n, said in ((0, '30 0 0 0'), (9, '0 0 1 6'))]
