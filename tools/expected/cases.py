@@ -357,6 +357,14 @@ read room 100 row 1 at the limit, row 2 at 0: %1) 281474976710.655 1 Rx 0123 0\r
 row version 12 number 1: 1) 281474976710.655 1 Rx 0123 0 -> 281474976710655 1 0 0 291 0 0000000000000000
 row version 12 number 1: 1) 281474976711.000 1 Rx 0123 0 -> none
 row version 11 number 1: 1) 281474976710.655 Rx 0123 0 -> none
+pack offset 281474976710655 bus 1 kind 0 extended 0 id x123 length 2 data x0AFF000000000000 room 20 -> 0 0 ffffffffffff080000048c82bfc0000000000000 untouched
+pack offset 281474976710656 bus 1 kind 0 extended 0 id x123 length 2 data x0AFF000000000000 room 20 -> 23 1 untouched
+pack offset 281474976710656 bus 1 kind 0 extended 0 id x123 length 2 data x0AFF000000000000 room 19 -> 23 1 untouched
+pack offset 562949953421311 bus 1 kind 0 extended 0 id x123 length 2 data x0AFF000000000000 room 21 -> 23 1 untouched
+pack offset xFFFFFFFFFFFFFFFF bus 1 kind 0 extended 0 id x123 length 2 data x0AFF000000000000 room 21 -> 23 1 untouched
+pack offset 281474976710655 bus 16 kind 1 extended 1 id x1FFFFFFF length 8 data xFFFFFFFFFFFFFFFF room 21 -> 0 0 ffffffffffff81fffffffe3fffffffffffffffc0 untouched
+unpack offset 140737488355328 bus 1 kind 0 extended 0 id x123 length 2 data x0AFF000000000000 spare 0 bytes 20 -> 800000000000080000048c82bfc0000000000000 0 0 140737488355328 1 0 0 291 2 0aff000000000000
+unpack offset 281474976710655 bus 1 kind 0 extended 0 id x123 length 2 data x0AFF000000000000 spare 0 bytes 20 -> ffffffffffff080000048c82bfc0000000000000 0 0 281474976710655 1 0 0 291 2 0aff000000000000
 again room 300 at the limit: %1) 281474976710.655 1 Rx 0123 2 0A FF\r\n2) 140737488355.328 2 Tx 18AB0001 0\r\n3) 100000000000.000 1 Rx 0124 3 RTR\r\n -> 0 0 162 ;$FILEVERSION=1.2\r\n;$STARTTIME=36585.5000000000\r\n1) 281474976710.655 1 Rx 0123 2 0A FF\r\n2) 140737488355.328 2 Tx 18AB0001 0\r\n3) 100000000000.000 1 Rx 0124 3 RTR\r\n untouched 0 0 12 3160987200000 3 2 1 ffffffffffff080000048c82bfc0000000000000
 '''
 LONG = [r'read room 100 comment with %d x: %%;%s\r\n -> %s' % (x, 'x' * x, said) for x, said in ((249, '0 0 12'), (250, '3 3 0 0 0 0 0'))]
