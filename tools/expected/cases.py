@@ -380,6 +380,17 @@ export start 8639999999999 bytes 20 room 46: 281404800001000 1 0 0 x123 -> 0 0 4
 stamp start 8639999999999 offset 281474976710655 -> 14 9 2182 103257 19 29 36 7096
 stamp start 8639999999999 offset 281474976710555 -> 14 9 2182 103257 19 29 36 7095
 stamp start 3160987200000 offset 140737488355328 -> 15 8 2004 38214 9 44 48 3553
+explain version 12 number 1: 1) 281474976710.655 1 Rx 0123 2 0A FF -> 30 0 0 0
+explain version 12 number 1: 1) 281474976710.656 1 Rx 0123 2 0A FF -> 0 0 1 2
+explain version 11 number 1: 1) 281474976710.6 Rx 0123 2 0A FF -> 30 0 0 0
+explain version 11 number 1: 1) 281474976710.7 Rx 0123 2 0A FF -> 0 0 1 2
+explain version 12 number 1: 1) 281474976710.655 1 Rx 0123 9 -> 0 0 1 6
+explain version 12 number 1: 1) 281474976710.656 1 Rx 0123 9 -> 0 0 1 2
+explain version 12 number 1: 1) 1000000000000.000 1 Rx 0123 0 -> 0 0 1 2
+explain version 12 number 1: 1) 281474976710.655 -> 0 0 2 2
+begin version 12 number 1 bytes 18: 1) 281474976710.656 1 Rx 0123 0 -> 0 0 1 2
+begin version 12 number 999999 bytes 24: 999999) 281474976710.655 16 Tx 1FFFFFFF 8 FF FF FF FF FF FF FF FF -> 0 0 2 2
+begin version 12 number 999999 bytes 65: 999999) 281474976710.655 16 Tx 1FFFFFFF 8 FF FF FF FF FF FF FF FF -> 30 0 0 0
 again room 300 at the limit: %1) 281474976710.655 1 Rx 0123 2 0A FF\r\n2) 140737488355.328 2 Tx 18AB0001 0\r\n3) 100000000000.000 1 Rx 0124 3 RTR\r\n -> 0 0 162 ;$FILEVERSION=1.2\r\n;$STARTTIME=36585.5000000000\r\n1) 281474976710.655 1 Rx 0123 2 0A FF\r\n2) 140737488355.328 2 Tx 18AB0001 0\r\n3) 100000000000.000 1 Rx 0124 3 RTR\r\n untouched 0 0 12 3160987200000 3 2 1 ffffffffffff080000048c82bfc0000000000000
 '''
 LONG = [r'read room 100 comment with %d x: %%;%s\r\n -> %s' % (x, 'x' * x, said) for x, said in ((249, '0 0 12'), (250, '3 3 0 0 0 0 0'))]
