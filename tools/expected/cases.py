@@ -391,6 +391,9 @@ explain version 12 number 1: 1) 281474976710.655 -> 0 0 2 2
 begin version 12 number 1 bytes 18: 1) 281474976710.656 1 Rx 0123 0 -> 0 0 1 2
 begin version 12 number 999999 bytes 24: 999999) 281474976710.655 16 Tx 1FFFFFFF 8 FF FF FF FF FF FF FF FF -> 0 0 2 2
 begin version 12 number 999999 bytes 65: 999999) 281474976710.655 16 Tx 1FFFFFFF 8 FF FF FF FF FF FF FF FF -> 30 0 0 0
+ascii room 100 part 3554 on both sides of 47 bits: 30.12.1899 00:00:00.0000%15.06.1904 21:44:48.3554% -> 0 0 0 2 000000000000080000048c000000000000000000800000000048080000048c000000000000000000 untouched
+convert records 72800 page 313040 last stamp: ;$FILEVERSION=1.2\r\n;$STARTTIME=99999.9999999942\r\n1) 281474976710.655 9 Tx 0000 0\r\n -> 44 14.09.2182 19:29:36.7096 CAN #9 | Tx 000 0\r\n untouched
+convert records 72800 page 313040 7, line 3, past the last offset: ;$FILEVERSION=1.2\r\n;$STARTTIME=99999.9999999942\r\n1) 281474976710.656 9 Tx 0000 0\r\n -> 21 refused 7 at line 3\r\n untouched
 again room 300 at the limit: %1) 281474976710.655 1 Rx 0123 2 0A FF\r\n2) 140737488355.328 2 Tx 18AB0001 0\r\n3) 100000000000.000 1 Rx 0124 3 RTR\r\n -> 0 0 162 ;$FILEVERSION=1.2\r\n;$STARTTIME=36585.5000000000\r\n1) 281474976710.655 1 Rx 0123 2 0A FF\r\n2) 140737488355.328 2 Tx 18AB0001 0\r\n3) 100000000000.000 1 Rx 0124 3 RTR\r\n untouched 0 0 12 3160987200000 3 2 1 ffffffffffff080000048c82bfc0000000000000
 '''
 LONG = [r'read room 100 comment with %d x: %%;%s\r\n -> %s' % (x, 'x' * x, said) for x, said in ((249, '0 0 12'), (250, '3 3 0 0 0 0 0'))]
