@@ -1,5 +1,6 @@
 //! Why a call was refused.
 
+use crate::{MOST_OFFSET, MOST_ROWS, MOST_TEXT};
 use std::error::Error;
 use std::fmt;
 
@@ -118,8 +119,11 @@ impl Refused {
 impl fmt::Display for Refused {
     fn fmt(&self, f: &mut fmt::Formatter) -> fmt::Result {
         let place = self.place;
+        let text = separated(MOST_TEXT as u64);
+        let rows = separated(MOST_ROWS as u64);
+        let offset = separated(MOST_OFFSET);
         match self.reason {
-            Reason::TextTooLong => write!(f, "the text has more than 134,217,728 bytes"),
+            Reason::TextTooLong => write!(f, "the text has more than {text} bytes"),
             Reason::LineNotEnded => write!(f, "line {place} is not ended by CR LF"),
             Reason::LineTooLong => write!(f, "line {place} has more than 250 bytes"),
             Reason::NoVersionLine => write!(f, "line {place} is no ;$FILEVERSION=1.1 or 1.2"),
@@ -127,24 +131,32 @@ impl fmt::Display for Refused {
             Reason::DollarComment => write!(f, "line {place} is a comment with $ first"),
             Reason::NoRow => write!(f, "line {place} is no row"),
             Reason::NoRoomForRecords => write!(f, "the output is too short for the records"),
-            Reason::NoRecords => write!(f, "the bytes are not 20 for each record, up to 999,999"),
+            Reason::NoRecords => write!(f, "the bytes are not 20 for each record, up to {rows}"),
             Reason::NoVersion => write!(f, "the version is neither 11 nor 12"),
             Reason::StartTooLate => write!(f, "the start lies past day 99,999"),
             Reason::NotWellFormed => write!(f, "record {place} is not well formed"),
             Reason::NotCarried => write!(f, "the version can't carry record {place}"),
             Reason::NoRoom => write!(f, "the output is too short"),
-            Reason::WrongFirstNumber => write!(f, "the first number is 0 with records or not 0 without, or the last row's would be above 999,999"),
-            Reason::Unexplained => write!(f, "the line is a row or a comment or holds CR or LF, or its number is above 999,999"),
+            Reason::WrongFirstNumber => write!(f, "the first number is 0 with records or not 0 without, or the last row's would be above {rows}"),
+            Reason::Unexplained => write!(f, "the line is a row or a comment or holds CR or LF, or its number is above {rows}"),
             Reason::NoAsciiLine => write!(f, "line {place} is no line of Telemotive ASCII, or has more than 250 bytes, or is not ended"),
             Reason::BeforeStart => write!(f, "the stamp of line {place} lies before the start, that of line 1 cut to the millisecond"),
-            Reason::OffsetTooLarge => write!(f, "the stamp of line {place} lies more than 99,999,999,999,999 microseconds behind the start"),
-            Reason::TooManyLines => write!(f, "there are more than 999,999 lines"),
+            Reason::OffsetTooLarge => write!(f, "the stamp of line {place} lies more than {offset} microseconds behind the start"),
+            Reason::TooManyLines => write!(f, "there are more than {rows} lines"),
         }?;
         write!(f, " (refusal {})", self.number())
     }
 }
 
 impl Error for Refused {}
+
+/// A number with its thousands separated.
+fn separated(number: u64) -> String {
+    match number / 1000 {
+        0 => number.to_string(),
+        thousands => format!("{},{:03}", separated(thousands), number % 1000),
+    }
+}
 
 /// What the first two numbers of an answer say.
 pub(crate) fn accepted(number: u64, place: u64) -> Result<(), Refused> {
