@@ -39,7 +39,7 @@
  * 20 bytes, 160 bits, the most significant first. A list of records is one after the other, with nothing between.
  *
  *   bits  field
- *     48  offset    microseconds from the start, 0 to 99,999,999,999,999
+ *     48  offset    microseconds from the start, 0 to 281,474,976,710,655: all that 48 bits hold
  *      5  bus       1 to 16; 0 for none, which is so for version 1.1
  *      3  kind      one of the six below
  *      1  extended  1 for an ID of the extended form, whatever its value; 0 for a standard one
@@ -82,7 +82,7 @@
  *   31   line    a line is no line of Telemotive ASCII, or has more than 250 bytes      bo_read_ascii
  *                before its end, or is not ended by CR LF or LF
  *   32   line    its stamp lies before the start                                        bo_read_ascii
- *   33   line    its stamp lies more than 99,999,999,999,999 microseconds behind the    bo_read_ascii
+ *   33   line    its stamp lies more than 281,474,976,710,655 microseconds behind the   bo_read_ascii
  *                start
  *   34   0       all lines are good, and there are more than 999,999                    bo_read_ascii
  *
@@ -137,8 +137,8 @@ extern "C" {
 #define BUSHINGOWL_MOST_HEADER 49
 
 /* The most bytes that bo_write gives for a record, with CR LF:
- * `999999) 99999999999.999 16 Rx 1FFFFFFF 8 00 11 22 33 44 55 66 77`. */
-#define BUSHINGOWL_MOST_ROW 66
+ * `999999) 281474976710.655 16 Rx 1FFFFFFF 8 00 11 22 33 44 55 66 77`. */
+#define BUSHINGOWL_MOST_ROW 67
 
 /* The most bytes that bo_export gives for a record, with CR LF:
  * `29.02.2000 12:00:00.0000 CANExt #16 | EXTENDED Rx 1fffffff 8 00 11 22 33 44 55 66 77`. */
@@ -151,8 +151,9 @@ extern "C" {
 /* The last start, the last millisecond of day 99,999: 8,639,999,999,999. */
 #define BUSHINGOWL_MOST_START ((uint64_t)99999 * 86400000 + 86399999)
 
-/* The largest offset, eleven digits of milliseconds and three behind the point: 99,999,999,999,999 microseconds. */
-#define BUSHINGOWL_MOST_OFFSET ((uint64_t)99999999 * 1000000 + 999999)
+/* The largest offset, which fills its 48 bits of a packed record: 281,474,976,710,655 microseconds, almost nine years.
+ * In a row it is `281474976710.655`; version 1.1 goes up to `281474976710.6`. */
+#define BUSHINGOWL_MOST_OFFSET (((uint64_t)1 << 48) - 1)
 
 /* Reads a trace text into packed records.
  * out: BUSHINGOWL_RECORD bytes for each row; text_len / BUSHINGOWL_LEAST_ROW * BUSHINGOWL_RECORD bytes are enough for

@@ -58,8 +58,8 @@ pub const LEAST_ROW: usize = 18;
 /// `;$STARTTIME=` with five digits of the day, a point and ten digits.
 pub const MOST_HEADER: usize = 49;
 /// The most bytes that [`write()`] gives for a record, with CR LF:
-/// `999999) 99999999999.999 16 Rx 1FFFFFFF 8 00 11 22 33 44 55 66 77`.
-pub const MOST_ROW: usize = 66;
+/// `999999) 281474976710.655 16 Rx 1FFFFFFF 8 00 11 22 33 44 55 66 77`.
+pub const MOST_ROW: usize = 67;
 /// The most bytes that [`export`] gives for a record, with CR LF:
 /// `29.02.2000 12:00:00.0000 CANExt #16 | EXTENDED Rx 1fffffff 8 00 11 22 33 44 55 66 77`.
 pub const MOST_LINE: usize = 86;
@@ -68,8 +68,9 @@ pub const MOST_LINE: usize = 86;
 pub const LEAST_LINE: usize = 43;
 /// The last start, the last millisecond of day 99,999, which is 13 October 2173.
 pub const MOST_START: u64 = 8_639_999_999_999;
-/// The largest offset, eleven digits of milliseconds and three behind the point.
-pub const MOST_OFFSET: u64 = 99_999_999_999_999;
+/// The largest offset, which fills its 48 bits of a packed record: almost nine years. In a row it is `281474976710.655`;
+/// version 1.1 goes up to `281474976710.6`.
+pub const MOST_OFFSET: u64 = 281_474_976_710_655;
 
 /// What a text holds beside its records.
 #[derive(Clone, Copy, Debug, PartialEq, Eq, Hash)]

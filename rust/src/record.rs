@@ -44,7 +44,7 @@ impl Kind {
 /// [`pack`](crate::pack) refuses it.
 #[derive(Clone, Copy, Debug, PartialEq, Eq, Hash)]
 pub struct Record {
-    /// Microseconds from the start, at most [`MOST_OFFSET`](crate::MOST_OFFSET). 48 bits.
+    /// Microseconds from the start, at most [`MOST_OFFSET`](crate::MOST_OFFSET), which is all that 48 bits hold.
     pub offset: u64,
     /// 1 to 16; 0 for none, which is so for version 1.1. 5 bits.
     pub bus: u8,

@@ -99,7 +99,9 @@ fn a_wrong_field_of_version_12() {
         (" ;", 1, r#"field 1 (row number) is wrong: ";" instead of "2)""#),
         ("2) 0.0 1 Rx 0123 0", 2, r#"field 2 (offset) is wrong: "0.0""#),
         ("2) 00.000 1 Rx 0123 0", 2, r#"field 2 (offset) is wrong: "00.000""#),
-        ("2) 100000000000.000 1 Rx 0123 0", 2, r#"field 2 (offset) is wrong: "100000000000.000""#),
+        ("2) 281474976710.656 1 Rx 0123 0", 2, r#"field 2 (offset) is wrong: "281474976710.656""#),
+        ("2) 281474976710.656", 2, r#"field 2 (offset) is wrong: "281474976710.656""#),
+        ("2) 1000000000000.000 1 Rx 0123 0", 2, r#"field 2 (offset) is wrong: "1000000000000.000""#),
         ("2) 0.000 0 Rx 0123 0", 3, r#"field 3 (bus) is wrong: "0""#),
         ("2) 0.000 17 Rx 0123 0", 3, r#"field 3 (bus) is wrong: "17""#),
         ("2) 0.000 Rx 0123 0", 3, r#"field 3 (bus) is wrong: "Rx""#),
@@ -144,6 +146,7 @@ fn a_wrong_field_of_version_11() {
     let cases = [
         ("0) 0.0 Rx 0123 0", 1, r#"field 1 (row number) is wrong: "0)" instead of "2)""#),
         ("2) 0.000 Rx 0123 0", 2, r#"field 2 (offset) is wrong: "0.000""#),
+        ("2) 281474976710.7 Rx 0123 0", 2, r#"field 2 (offset) is wrong: "281474976710.7""#),
         ("2) 0.0 1 Rx 0123 0", 3, r#"field 3 (type) is wrong: "1""#),
         ("2) 0.0 Warng FFFF 4 00 00 00 08", 4, r#"field 4 (ID) is wrong: "FFFF""#),
         ("2) 0.0 Rx 0123 A", 5, r#"field 5 (length) is wrong: "A""#),
@@ -165,6 +168,7 @@ fn a_row_of_version_12_that_ended_early() {
         ("   ", 0, r#"the line is empty: row number "2)" was expected"#),
         ("2)", 1, "the row ended early after field 1 (row number): offset was expected next"),
         ("2) 0.000 ", 2, "the row ended early after field 2 (offset): bus was expected next"),
+        ("2) 281474976710.655", 2, "the row ended early after field 2 (offset): bus was expected next"),
         (" 2)  0.000  1", 3, "the row ended early after field 3 (bus): type was expected next"),
         ("2) 0.000 1 Rx", 4, "the row ended early after field 4 (type): ID was expected next"),
         ("2) 0.000 1 Warng FFFFFFFF", 5, "the row ended early after field 5 (ID): length was expected next"),
@@ -185,6 +189,7 @@ fn a_row_of_version_11_that_ended_early() {
         ("", 0, r#"the line is empty: row number "2)" was expected"#),
         ("2)", 1, "the row ended early after field 1 (row number): offset was expected next"),
         ("2) 0.0", 2, "the row ended early after field 2 (offset): type was expected next"),
+        ("2) 281474976710.6", 2, "the row ended early after field 2 (offset): type was expected next"),
         ("2) 0.0 Error", 3, "the row ended early after field 3 (type): ID was expected next"),
         ("2) 0.0 Error 0004", 4, "the row ended early after field 4 (ID): length was expected next"),
         ("2) 0.0 Error 0004 4", 5, "the row ended early after field 5 (length): data byte 1 of 4 was expected next"),
@@ -257,7 +262,7 @@ fn a_row_in_the_middle() {
 fn nothing_to_explain() {
     let lines = [
         "1) 0.000 1 Rx 0123 2 0A FF",
-        "  1)  99999999999.999 16 Tx 1fffffff 8 RTR ",
+        "  1)  281474976710.655 16 Tx 1fffffff 8 RTR ",
         "1) 0.000 1 Rx 0123 0",
         "1) 0.000 1 Warng ffffffff 4 00 00 00 08 AB RTR",
         "1) 0.000 1 Error 0008 4 01 1C 00 FF",

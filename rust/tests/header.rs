@@ -38,9 +38,8 @@ fn limits_are_the_same() {
     let start = "((uint64_t)99999 * 86400000 + 86399999)";
     assert_eq!(defined("MOST_START"), start);
     assert_eq!(MOST_START, 99_999 * 86_400_000 + 86_399_999);
-    let offset = "((uint64_t)99999999 * 1000000 + 999999)";
-    assert_eq!(defined("MOST_OFFSET"), offset);
-    assert_eq!(MOST_OFFSET, 99_999_999 * 1_000_000 + 999_999);
+    assert_eq!(defined("MOST_OFFSET"), "(((uint64_t)1 << 48) - 1)");
+    assert_eq!(MOST_OFFSET, (1 << 48) - 1);
 }
 
 #[test]

@@ -130,7 +130,7 @@ fn of_rows_and_lines() {
     pack(&LONGEST, &mut record).unwrap();
     let mut records = record.repeat(MOST_ROWS);
     let text = write_to_vec(12, MOST_START, 1, &records).unwrap();
-    let last = b"999999) 99999999999.999 16 Rx 1FFFFFFF 8 00 11 22 33 44 55 66 77\r\n";
+    let last = b"999999) 281474976710.655 16 Rx 1FFFFFFF 8 00 11 22 33 44 55 66 77\r\n";
     assert_eq!(last.len(), MOST_ROW);
     assert!(text.ends_with(last));
     let (trace, read) = read_to_vec(&text).unwrap();

@@ -537,16 +537,16 @@ fn stamps_before_the_first_one() {
 
 #[test]
 fn stamps_past_the_largest_offset() {
-    // 99,999,999.9999 seconds are 1157 days, 9 hours, 46 minutes and 39.9999 seconds.
+    // 281,474,976.7106 seconds are 3257 days, 19 hours, 29 minutes and 36.7106 seconds.
     let most = MOST_OFFSET / 100 * 100;
-    assert_eq!(most, 99_999_999_999_900);
+    assert_eq!(most, 281_474_976_710_600);
     for (first, offset) in [("00:00:00.0000", 0), ("00:00:00.0009", 900)] {
         let first = at(&format!("30.12.1899 {first}"));
-        let text = format!("{first}{}", at("02.03.1903 09:46:39.9999"));
+        let text = format!("{first}{}", at("30.11.1908 19:29:36.7106"));
         holds(&text, 0, &offsets([offset, most]));
         for late in [
-            "02.03.1903 09:46:40.0000",
-            "03.03.1903 00:00:00.0000",
+            "30.11.1908 19:29:36.7107",
+            "01.12.1908 00:00:00.0000",
             "13.10.2173 23:59:59.9999",
         ] {
             let text = format!("{first}{}", at(late));
@@ -555,16 +555,17 @@ fn stamps_past_the_largest_offset() {
             is_refused(text.as_bytes(), Reason::OffsetTooLarge, 3);
         }
     }
-    // Up to the last stamp: day 98,842 lies 1157 days before it.
+    // Up to the last stamp: day 96,742 lies 3257 days before it. The start is cut to the millisecond, so that the offset
+    // is 0.7 ms less than the largest, or 0.3 ms more.
     let text = [
-        at("13.08.2170 14:13:20.0000"),
+        at("12.11.2164 04:30:23.2900"),
         at("13.10.2173 23:59:59.9999"),
     ]
     .concat();
-    let start = 98_842 * DAY + 51_200_000;
-    holds(&text, start, &offsets([0, most]));
+    let start = 96_742 * DAY + 16_223_290;
+    holds(&text, start, &offsets([0, most - 700]));
     let text = [
-        at("13.08.2170 14:13:19.9999"),
+        at("12.11.2164 04:30:23.2899"),
         at("13.10.2173 23:59:59.9999"),
     ]
     .concat();

@@ -255,7 +255,7 @@ fn in_words() {
         (
             33,
             7,
-            "the stamp of line 7 lies more than 99,999,999,999,999 microseconds behind the start (refusal 33)",
+            "the stamp of line 7 lies more than 281,474,976,710,655 microseconds behind the start (refusal 33)",
         ),
         (34, 0, "there are more than 999,999 lines (refusal 34)"),
     ];
