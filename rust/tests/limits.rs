@@ -1,7 +1,7 @@
 //! The constants are the very limits: what is as large is taken, and one more is not.
 
 use bushingowl::{
-    export_to_vec, pack, read_ascii_to_vec, read_to_vec, unpack, write_to_vec, Kind, Reason,
+    export_to_vec, pack, read_ascii_to_vec, read_to_vec, unpack, write, write_to_vec, Kind, Reason,
     Record, LEAST_LINE, LEAST_ROW, MOST_HEADER, MOST_LINE, MOST_OFFSET, MOST_ROW, MOST_ROWS,
     MOST_START, MOST_TEXT, RECORD,
 };
@@ -122,6 +122,17 @@ fn of_the_shortest_lines() {
         let refused = read_ascii_to_vec(shorter.as_bytes()).unwrap_err();
         assert_eq!((refused.number(), refused.place), (31, 1), "{shorter}");
     }
+}
+
+#[test]
+fn of_the_longest_row() {
+    let mut record = [0; RECORD];
+    pack(&LONGEST, &mut record).unwrap();
+    let mut out = [0; MOST_HEADER + MOST_ROW];
+    let answer = write(12, MOST_START, 999_999, &record, &mut out);
+    assert_eq!(answer, Ok(out.len()));
+    let short = write(12, MOST_START, 999_999, &record, &mut out[1..]).unwrap_err();
+    assert_eq!(short.reason, Reason::NoRoom);
 }
 
 #[test]
