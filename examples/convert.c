@@ -310,15 +310,16 @@ static int put_ascii_refusal(const uint8_t *text, size_t len, const uint64_t rea
     int done = put_refusal(read[0], read[1]);
     switch (read[0]) {
     case 1:
-        return done && printf("the text has more than 134217728 bytes\r\n") >= 0;
+        return done && printf("the text has more than %d bytes\r\n", BUSHINGOWL_MOST_TEXT) >= 0;
     case 31:
         return done && put_no_line(text, len, read[1]);
     case 32:
         return done && printf("its stamp lies before the start, that of line 1 cut to the millisecond\r\n") >= 0;
     case 33:
-        return done && printf("its stamp lies more than 99999999999999 microseconds behind the start, that of line 1 cut to the millisecond\r\n") >= 0;
+        return done && printf("its stamp lies more than %" PRIu64 " microseconds behind the start, that of line 1 cut to the millisecond\r\n",
+                              BUSHINGOWL_MOST_OFFSET) >= 0;
     case 34:
-        return done && printf("there are more than 999999 lines\r\n") >= 0;
+        return done && printf("there are more than %d lines\r\n", BUSHINGOWL_MOST_ROWS) >= 0;
     default:
         /* There is room for the records. */
         return done;

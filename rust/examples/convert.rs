@@ -5,7 +5,8 @@
 //! Ends with 0 if the trace or the lines were exported, 1 if they were refused, and 2 if it could not be done.
 
 use bushingowl::{
-    explain_refusal, export_to_vec, read_ascii_to_vec, read_to_vec, Reason, Refused, MOST_TEXT,
+    explain_refusal, export_to_vec, read_ascii_to_vec, read_to_vec, Reason, Refused, MOST_OFFSET,
+    MOST_ROWS, MOST_TEXT,
 };
 use std::ffi::{OsStr, OsString};
 use std::fs::File;
@@ -89,11 +90,11 @@ fn respell(text: &[u8]) -> Result<Vec<u8>, Refused> {
 /// What is printed for lines of Telemotive ASCII that are refused.
 fn ascii_refusal(text: &[u8], refused: Refused) -> Vec<u8> {
     let why = match refused.reason {
-        Reason::TextTooLong => "the text has more than 134217728 bytes".to_string(),
+        Reason::TextTooLong => format!("the text has more than {MOST_TEXT} bytes"),
         Reason::NoAsciiLine => no_line(text, refused.place),
         Reason::BeforeStart => "its stamp lies before the start, that of line 1 cut to the millisecond".to_string(),
-        Reason::OffsetTooLarge => "its stamp lies more than 99999999999999 microseconds behind the start, that of line 1 cut to the millisecond".to_string(),
-        Reason::TooManyLines => "there are more than 999999 lines".to_string(),
+        Reason::OffsetTooLarge => format!("its stamp lies more than {MOST_OFFSET} microseconds behind the start, that of line 1 cut to the millisecond"),
+        Reason::TooManyLines => format!("there are more than {MOST_ROWS} lines"),
         // Records just read are not refused, and there is room for them.
         _ => refused.to_string(),
     };
