@@ -381,15 +381,20 @@ fn stamps_around_the_start() {
 
 #[test]
 fn offsets_at_the_limit() {
-    // 99,999,999,999,900 microseconds are 1157 days, 9:46:39.9999.
+    // 281,474,976,710,600 microseconds are 3257 days, 19:29:36.7106.
     let first = "30.12.1899 00:00:00.0000";
-    let text = stamped(&[first, "02.03.1903 09:46:39.9999"]);
-    let (answer_, records) = read(&text);
-    assert_eq!(answer_, [0, 0, 0, 2]);
-    assert_eq!(offsets(&records), [0, 99_999_999_999_900]);
-    for second in [
+    let text = stamped(&[
+        first,
         "02.03.1903 09:46:40.0000",
-        "03.03.1903 00:00:00.0000",
+        "30.11.1908 19:29:36.7106",
+    ]);
+    let (answer_, records) = read(&text);
+    assert_eq!(answer_, [0, 0, 0, 3]);
+    let expected = [0, 100_000_000_000_000, 281_474_976_710_600];
+    assert_eq!(offsets(&records), expected);
+    for second in [
+        "30.11.1908 19:29:36.7107",
+        "01.12.1908 00:00:00.0000",
         "13.10.2173 23:59:59.9999",
     ] {
         assert_eq!(answer(&stamped(&[first, second])), at(33, 2), "{second}");
@@ -400,14 +405,14 @@ fn offsets_at_the_limit() {
     );
     // What is cut from the first stamp is part of the offset.
     let first = "30.12.1899 00:00:00.0009";
-    let text = stamped(&[first, "02.03.1903 09:46:39.9999"]);
+    let text = stamped(&[first, "30.11.1908 19:29:36.7106"]);
     assert_eq!(answer(&text), [0, 0, 0, 2]);
-    let text = stamped(&[first, "02.03.1903 09:46:40.0000"]);
+    let text = stamped(&[first, "30.11.1908 19:29:36.7107"]);
     assert_eq!(answer(&text), at(33, 2));
     let first = "30.12.1899 00:00:00.0010";
-    let text = stamped(&[first, "02.03.1903 09:46:40.0009"]);
+    let text = stamped(&[first, "30.11.1908 19:29:36.7116"]);
     assert_eq!(answer(&text), [0, 0, 1, 2]);
-    let text = stamped(&[first, "02.03.1903 09:46:40.0010"]);
+    let text = stamped(&[first, "30.11.1908 19:29:36.7117"]);
     assert_eq!(answer(&text), at(33, 2));
 }
 

@@ -3,7 +3,8 @@
 //! A row has one of twelve shapes, and in each shape what may stand in one column does not depend on the others. So some fields begin a row
 //! just if they stand in the first columns of some shape. One shape after the other drops out; where the last does, the field is wrong.
 
-use super::record::{EXTENDED_IDS, STANDARD_IDS};
+use super::reader;
+use super::record::{EXTENDED_IDS, LAST_OFFSET, OFFSET_DIGITS, STANDARD_IDS};
 use super::tables::{NONE, VALUE};
 use super::LAST_NUMBER;
 use Column::*;
@@ -219,24 +220,26 @@ impl Column {
     }
 }
 
-/// A decimal number, a point and just so many digits.
+/// A decimal number, a point and just so many digits, up to the largest offset.
 fn is_offset(field: &[u8], places: usize) -> bool {
     let Some(point) = field.len().checked_sub(places + 1) else {
         return false;
     };
     let (whole, part) = field.split_at(point);
-    decimal(whole, 11).is_some() && part[0] == b'.' && part[1..].iter().all(u8::is_ascii_digit)
+    let whole = decimal(whole, OFFSET_DIGITS);
+    let part = part.strip_prefix(b".").and_then(reader::decimal);
+    let scale = 10_u64.pow(3 - places as u32);
+    whole
+        .zip(part)
+        .is_some_and(|(whole, part)| whole * 1000 + part * scale <= LAST_OFFSET)
 }
 
 /// The value of at most so many digits without a leading zero.
 fn decimal(digits: &[u8], most: usize) -> Option<u64> {
-    if digits.len() > most || matches!(digits, [] | [b'0', _, ..]) {
+    if digits.len() > most || matches!(digits, [b'0', _, ..]) {
         return None;
     }
-    digits.iter().try_fold(0, |value, byte| {
-        byte.is_ascii_digit()
-            .then(|| value * 10 + u64::from(byte - b'0'))
-    })
+    reader::decimal(digits)
 }
 
 /// The value of just so many hexadecimal digits.

@@ -24,7 +24,7 @@ fn read_or_refuse(text: &[u8], out: &mut [u8]) -> Result<[u64; 5], Refusal> {
     }
     let (version, text) = header(text, (4, 1), version)?;
     let (start, text) = header(text, (5, 2), start)?;
-    // No value is needed before all is judged; so the first pass works out none.
+    // No value is needed before all is judged; so the first pass works out only those that have a limit.
     let (rows, first) = each_row::<false>(text, version, |_, _| ())?;
     let out = out.get_mut(..rows as usize * RECORD).ok_or((8, 0))?;
     let mut records = out.as_chunks_mut().0.iter_mut();
@@ -155,7 +155,7 @@ fn setting<'a>(line: &'a [u8], name: &[u8]) -> Option<&'a [u8]> {
 }
 
 /// The value of one or more digits.
-fn decimal(digits: &[u8]) -> Option<u64> {
+pub fn decimal(digits: &[u8]) -> Option<u64> {
     if digits.is_empty() {
         return None;
     }

@@ -2,7 +2,10 @@
 
 use super::RECORD;
 
-pub const LAST_OFFSET: u64 = 99_999_999_999_999;
+/// The largest offset in microseconds, which fills its 48 bits.
+pub const LAST_OFFSET: u64 = 281_474_976_710_655;
+/// The most digits of an offset before its point, where it counts milliseconds.
+pub const OFFSET_DIGITS: usize = (LAST_OFFSET / 1000).ilog10() as usize + 1;
 /// The kinds from 2 on: remote frames received and sent, then what is no frame.
 pub const REMOTE: u64 = 2;
 pub const WARNING: u64 = 4;

@@ -2,6 +2,7 @@
 
 use super::cursor::{Cursor, Window, LONGEST, TOGETHER};
 use super::record::{error, Fields, ERROR, EXTENDED_IDS, REMOTE, STANDARD_IDS, WARNING};
+use super::record::{LAST_OFFSET, OFFSET_DIGITS};
 
 /// Reads the row at the beginning of a window, and gives its number and the bytes it has with its line end.
 /// The expected number is 0 for a first row, which may have any.
@@ -17,8 +18,8 @@ pub fn row<const JUDGED: bool>(
     let number = cursor.number(expected)?;
     cursor.gap()?;
     let (offset, bus) = match with_bus {
-        true => (cursor.offset_of_three_digits()?, cursor.bus()?),
-        false => (cursor.offset_of_one_digit()?, 0),
+        true => (cursor.offset::<3>()?, cursor.bus()?),
+        false => (cursor.offset::<1>()?, 0),
     };
     cursor.gap()?;
     // The cursor is given away and back, so that it need not lie in memory for the rare rows.
@@ -51,20 +52,15 @@ impl<const JUDGED: bool> Cursor<'_, JUDGED> {
         Some(number)
     }
 
-    /// The offset of version 1.1 in microseconds.
+    /// The offset in microseconds, with so many digits behind its point.
     #[inline(always)]
-    fn offset_of_one_digit(&mut self) -> Option<u64> {
-        let whole = self.decimal::<11>()?;
+    fn offset<const PLACES: usize>(&mut self) -> Option<u64> {
+        let whole = self.decimal::<OFFSET_DIGITS>()?;
         self.text(b".")?;
-        Some(whole * 1000 + self.decimal_digits::<1>()? * 100)
-    }
-
-    /// The offset of version 1.2 in microseconds.
-    #[inline(always)]
-    fn offset_of_three_digits(&mut self) -> Option<u64> {
-        let whole = self.decimal::<11>()?;
-        self.text(b".")?;
-        Some(whole * 1000 + self.decimal_digits::<3>()?)
+        let part = self.decimal_digits::<PLACES>()?;
+        let offset = whole * 1000 + part * 10_u64.pow(3 - PLACES as u32);
+        self.must(offset <= LAST_OFFSET)?;
+        Some(offset)
     }
 
     /// A gap and the bus.

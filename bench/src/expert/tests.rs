@@ -1,6 +1,6 @@
 //! The small trace of the paper, its limits that are spelled in a row, and what is wrong with lines that are none.
 
-use super::{explain, export, read, write, RECORD};
+use super::{explain, export, pack, read, unpack, write, LAST_START, RECORD};
 
 const TEXT: &str = ";$FILEVERSION=1.2\r\n;$STARTTIME=36585.5\r\n\
     1) 0.000 1 Rx 0123 2 0A FF\r\n\
@@ -9,6 +9,8 @@ const TEXT: &str = ";$FILEVERSION=1.2\r\n;$STARTTIME=36585.5\r\n\
 const LINES: &str = "29.02.2000 12:00:00.0000 CAN #1 | Rx 123 2 0a ff\r\n\
     29.02.2000 12:00:01.5002 CANExt #2 | EXTENDED Tx 18ab0001 0\r\n";
 const START: u64 = 3_160_987_200_000;
+/// The largest offset: all 48 bits.
+const LAST_OFFSET: u64 = (1 << 48) - 1;
 
 #[test]
 fn small_trace() {
@@ -40,8 +42,8 @@ fn limits_of_a_row() {
         ("1) 0.000 1 Rx 0000 8 RTR", "1) 0.000 1 Rx 0000 9 RTR"),
         ("1) 0.000 1 Rx 0000 0", "1) 0.000 1 Rx 0000 0 00"),
         (
-            "1) 99999999999.999 1 Rx 0000 0",
-            "1) 100000000000.000 1 Rx 0000 0",
+            "1) 281474976710.655 1 Rx 0000 0",
+            "1) 281474976710.656 1 Rx 0000 0",
         ),
         (
             "1) 0.000 1 Error 0008 4 01 0F 00 00",
@@ -68,6 +70,112 @@ fn limits_of_a_row() {
 fn number_of(row: &str) -> u64 {
     let text = format!(";$FILEVERSION=1.2\r\n;$STARTTIME=0.0\r\n{row}\r\n");
     read(text.as_bytes(), &mut [0; RECORD])[0]
+}
+
+/// The offset of a row in which it is spelled so, if it is one. It must be written as it was read, and be explained alike.
+fn offset_of(version: u32, spelled: &str) -> Option<u64> {
+    let begun = format!("1) {spelled}");
+    let bus = if version == 12 { " 1" } else { "" };
+    let row = format!("{begun}{bus} Rx 0123 0");
+    let head = format!(";$FILEVERSION=1.{}\r\n", version - 10);
+    let text = format!("{head};$STARTTIME=0.0000000000\r\n{row}\r\n");
+    let explained = [begun, row].map(|line| explain(line.as_bytes(), version, 1));
+    let mut record = [0; RECORD];
+    let answer = read(text.as_bytes(), &mut record);
+    if answer[..2] == [7, 3] {
+        assert_eq!(explained, [wrong(2), wrong(2)], "{text}");
+        return None;
+    }
+    assert_eq!(answer, [0, 0, u64::from(version), 0, 1, 0, 1], "{text}");
+    assert_eq!(explained, [early(2), ROW], "{text}");
+    let mut out = vec![0; text.len()];
+    let len = out.len() as u64;
+    assert_eq!(write(version, 0, 1, &record, &mut out), [0, 0, len]);
+    assert_eq!(out, text.as_bytes());
+    Some(unpack(&record)[2])
+}
+
+#[test]
+fn offsets_of_rows() {
+    for (spelled, offset) in [
+        ("99999999999.999", Some(99_999_999_999_999)),
+        ("100000000000.000", Some(100_000_000_000_000)),
+        ("140737488355.327", Some((1 << 47) - 1)),
+        ("140737488355.328", Some(1 << 47)),
+        ("281474976709.999", Some(281_474_976_709_999)),
+        ("281474976710.655", Some(LAST_OFFSET)),
+        ("281474976710.656", None),
+        ("281474976710.999", None),
+        ("281474976711.000", None),
+        ("281475976710.000", None),
+        ("999999999999.999", None),
+        ("1000000000000.000", None),
+        ("2814749767106.550", None),
+        ("0281474976710.655", None),
+        ("18446744073709551.616", None),
+    ] {
+        assert_eq!(offset_of(12, spelled), offset, "{spelled}");
+        let tenths = &spelled[..spelled.len() - 2];
+        let offset = match tenths {
+            // What of the limit is below a tenth is not spelled.
+            "281474976710.6" => Some(281_474_976_710_600),
+            _ => offset.map(|offset| offset - offset % 100),
+        };
+        assert_eq!(offset_of(11, tenths), offset, "{tenths}");
+    }
+    assert_eq!(offset_of(11, "281474976710.7"), None);
+}
+
+#[test]
+fn offsets_of_records() {
+    let fields = |offset| [offset, 1, 0, 0, 0x123, 0, 0];
+    for offset in [0, (1 << 47) - 1, 1 << 47, LAST_OFFSET - 1, LAST_OFFSET] {
+        let mut record = [0xAA; RECORD];
+        assert_eq!(pack(&fields(offset), &mut record), [0, 0]);
+        assert_eq!(record[..6], offset.to_be_bytes()[2..]);
+        assert_eq!(unpack(&record)[..3], [0, 0, offset]);
+    }
+    for bit in 48..64 {
+        for offset in [1 << bit, 1 << bit | 1, 1 << bit | LAST_OFFSET] {
+            let mut record = [0xAA; RECORD];
+            assert_eq!(pack(&fields(offset), &mut record), [23, 1]);
+            assert_eq!(record, [0xAA; RECORD]);
+        }
+    }
+}
+
+#[test]
+fn longest_row() {
+    let row = "999999) 281474976710.655 16 Tx 1FFFFFFF 8 00 11 22 33 44 55 66 77";
+    assert_eq!(row.len(), 65);
+    let text = format!(";$FILEVERSION=1.2\r\n;$STARTTIME=99999.9999999884\r\n{row}\r\n");
+    let mut record = [0; RECORD];
+    let answer = read(text.as_bytes(), &mut record);
+    assert_eq!(answer, [0, 0, 12, LAST_START, 1, 0, 999_999]);
+    let mut out = vec![0; text.len()];
+    let len = out.len() as u64;
+    let written = write(12, LAST_START, 999_999, &record, &mut out);
+    assert_eq!(written, [0, 0, len]);
+    assert_eq!(out, text.as_bytes());
+}
+
+#[test]
+fn last_stamps() {
+    // The largest offset is 3,257 days, 19:29:36.710655. The last start is one millisecond before day 100,000, which is 14.10.2173; so the last
+    // stamp lies in day 103,257: nine years behind 13.10.2173, with two leap days, are 3,287 days, and 29 fewer are 3,258.
+    for (start, stamp) in [
+        (0, "30.11.1908 19:29:36.7106"),
+        (START, "30.01.2009 07:29:36.7106"),
+        (LAST_START, "14.09.2182 19:29:36.7096"),
+    ] {
+        let mut record = [0; RECORD];
+        pack(&[LAST_OFFSET, 16, 1, 0, 0x7FF, 0, 0], &mut record);
+        let line = format!("{stamp} CAN #16 | Tx 7ff 0\r\n");
+        let mut out = vec![0; line.len()];
+        let len = out.len() as u64;
+        assert_eq!(export(start, &record, &mut out), [0, 0, len, 1, 0]);
+        assert_eq!(out, line.as_bytes());
+    }
 }
 
 /// Version 1.1 with rows of these numbers, comments between them, and offsets that fall.
@@ -159,8 +267,8 @@ fn fields_in_turn() {
     let number = ("7)", "7)", "6)|8)|07)|7|)|7))|7).|77)|0)|-7)|+7)|1)|7]");
     let offset = (
         "0.000",
-        "0.000|9.999|99999999999.999|4294967296.000",
-        "0.0|0.00|0.0000|.000|00.000|01.000|0,000|0.|0|100000000000.000|0.00A|A.000|-0.000|0.000.",
+        "0.000|9.999|4294967296.000|99999999999.999|100000000000.000|281474976710.655",
+        "0.0|0.00|0.0000|.000|00.000|01.000|0,000|0.|0|0.00A|A.000|-0.000|0.000.|281474976710.656|1000000000000.000",
     );
     let bus = ("1", "1|2|9|10|16", "0|01|17|20|100|1.|A|-1|256");
     let frame_id = (
