@@ -34,7 +34,7 @@ fn spelled(runs: &mut Runs) -> Checked {
     let spelled = trace(&mut runs.random);
     let kind = match spelled.wrong {
         None => "read: good trace",
-        Some(_) => "read: trace with a wrong number",
+        Some(_) => "read: trace with a wrong row",
     };
     let known = (spelled.answer(), &*spelled.records());
     runs.read(kind, &spelled.text, Some(known))?;

@@ -8,8 +8,9 @@ use crate::inputs::LAST_NUMBER;
 /// The answer for a row, and for all else that is not explained.
 const UNEXPLAINED: [u64; 4] = [30, 0, 0, 0];
 const NO_VERSION: [u64; 4] = [21, 0, 0, 0];
-/// The first field is wrong.
+/// The first field is wrong, or the second.
 const WRONG_NUMBER: [u64; 4] = [0, 0, 1, 1];
+const WRONG_OFFSET: [u64; 4] = [0, 0, 1, 2];
 const VERSIONS: [u32; 11] = [
     0,
     1,
@@ -61,7 +62,7 @@ pub fn one_row(runs: &mut Runs) -> Checked {
     Ok(())
 }
 
-/// A good row, with other numbers and versions.
+/// A good row, with other numbers, versions and offsets.
 fn elsewhere(runs: &mut Runs, row: &RowFields) -> Checked {
     let line = row.fields.join(&b' ');
     let right = row.number;
@@ -93,8 +94,12 @@ fn elsewhere(runs: &mut Runs, row: &RowFields) -> Checked {
         runs.explain(kind, &line, version, number, Some(NO_VERSION))?;
     }
     // The digits behind the point are not as many.
-    let (kind, known) = ("explain: row of another version", [0, 0, 1, 2]);
-    runs.explain(kind, &line, 23 - row.version, right, Some(known))?;
+    let (kind, known) = ("explain: row of another version", Some(WRONG_OFFSET));
+    runs.explain(kind, &line, 23 - row.version, right, known)?;
+    for line in row.too_late(&mut runs.random) {
+        let kind = "explain: too large an offset";
+        runs.explain(kind, &line, row.version, row.expected, known)?;
+    }
     Ok(())
 }
 

@@ -98,6 +98,7 @@ fn explained_as_meant() {
         let rows = Rows::new(base.version, base.expected);
         let mut all = base.good(&mut random);
         all.extend(base.damaged(&mut random));
+        all.extend(base.too_late(&mut random));
         all.extend(base.rearranged(&mut random));
         all.extend(base.cut(&mut random));
         all.extend(base.with_odd_bytes(&mut random));

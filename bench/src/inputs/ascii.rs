@@ -3,13 +3,14 @@
 use super::random::Random;
 use super::records::{frame, packed, Fields};
 use super::style::Style;
+use super::LAST_OFFSET;
 
 /// Stamps and days count from 30 December 1899, stamps in steps of 100 microseconds. Those before are below 0.
 pub const DAY: i64 = 864_000_000;
 /// The last stamp that a line may have: that of day 99,999.
 pub const LAST_STAMP: i64 = 100_000 * DAY - 1;
-/// The most steps from the start, which are 99,999,999,999,900 microseconds.
-pub const LAST_STEPS: i64 = 999_999_999_999;
+/// The most steps from the start.
+pub const LAST_STEPS: i64 = (LAST_OFFSET / 100) as i64;
 /// The most bytes of a line without its end.
 pub const LONGEST: usize = 250;
 /// The fewest bytes of a line with its end.

@@ -2,8 +2,8 @@
 
 use super::damage::{damage_byte, next_number, ALPHABET, WORDS};
 use super::random::Random;
-use super::records::record;
-use super::style::Style;
+use super::records::{past_offset, record};
+use super::style::{offset_text, Style};
 use super::LAST_NUMBER;
 
 /// A row of a version with a number, as its fields.
@@ -19,6 +19,7 @@ pub struct RowFields {
 const ODD: &[u8] = b"\t\0\r\n;$.,)-+xGg@[`{/:\x0B\x7F\x80\xA0\xFF";
 /// How often each field is damaged.
 const TIMES: usize = 8;
+const OFFSET: usize = 1;
 
 impl RowFields {
     pub fn new(random: &mut Random) -> Self {
@@ -54,6 +55,18 @@ impl RowFields {
             }
         }
         lines
+    }
+
+    /// The row with too large an offset, several times.
+    pub fn too_late(&self, random: &mut Random) -> Vec<Vec<u8>> {
+        let version = u64::from(self.version);
+        let mut line = || {
+            let mut fields = self.fields.clone();
+            let offset = past_offset(random, version);
+            fields[OFFSET] = offset_text(version, offset).into_bytes();
+            joined(random, &fields)
+        };
+        (0..TIMES).map(|_| line()).collect()
     }
 
     /// Each field lost, doubled, put elsewhere, replaced by another of the row and with another before it, in turn; and some more at the end.

@@ -17,3 +17,5 @@ pub mod style;
 pub const LAST_NUMBER: u64 = 999_999;
 /// The latest start in milliseconds.
 pub const LAST_START: u64 = 8_639_999_999_999;
+/// The largest offset in microseconds.
+pub const LAST_OFFSET: u64 = 281_474_976_710_655;

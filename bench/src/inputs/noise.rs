@@ -34,9 +34,10 @@ pub fn words(random: &mut Random) -> Vec<u8> {
         let number = format!("{row})");
         let mut columns = vec![number.as_str()];
         match version {
-            11 => columns.push(random.pick(&["0.0", "12.5", "99999999999.9", "00.0"])),
+            11 => columns.push(random.word("0.0|12.5|281474976710.6|281474976710.7|00.0")),
             _ => {
-                columns.push(random.pick(&["0.000", "12.345", "99999999999.999", "01.500"]));
+                let offsets = "0.000|12.345|281474976710.655|281474976710.656|01.500";
+                columns.push(random.word(offsets));
                 columns.push(random.pick(&["1", "9", "10", "16", "17"]));
             }
         }

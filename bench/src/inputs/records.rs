@@ -1,11 +1,11 @@
 //! Records at random, as fields and packed.
 
 use super::random::Random;
+use super::LAST_OFFSET;
 
 /// Offset, bus, kind, extended, ID, length, data.
 pub type Fields = [u64; 7];
 
-const LAST_OFFSET: u64 = 99_999_999_999_999;
 const POSITIONS: [u64; 23] = [
     2, 3, 4, 5, 6, 7, 8, 9, 10, 11, 12, 13, 14, 15, 17, 18, 19, 23, 24, 25, 26, 27, 28,
 ];
@@ -27,13 +27,39 @@ pub fn record(random: &mut Random, version: u64) -> Fields {
     [offset, bus, kind, extended, id, length, data]
 }
 
+/// Around powers of ten, of which the greatest was the limit before Order 5, and of two, at the limit, and any.
 fn offset(random: &mut Random, version: u64) -> u64 {
-    let power = 10_u64.pow(random.between(1, 13) as u32);
+    let power = match random.once_in(3) {
+        true => 1 << random.between(30, 48),
+        false => 10_u64.pow(random.between(1, 14) as u32),
+    };
     let near = (power + random.below(3000) as u64).saturating_sub(1500);
     let any = random.number() % power;
     let offset = random.pick(&[0, any, any, any, near, LAST_OFFSET, LAST_OFFSET - 99]);
+    let offset = offset.min(LAST_OFFSET);
     match version {
         11 => offset - offset % 100,
+        _ => offset,
+    }
+}
+
+/// An offset past the largest, as a row of the version spells it: often the first one, or one on either side of thirteen digits.
+pub fn past_offset(random: &mut Random, version: u64) -> u64 {
+    let first = LAST_OFFSET + 1;
+    let near = first + random.below(2000) as u64;
+    let digits = 10_u64.pow(15);
+    let any = random.number() >> 1;
+    let offset = random.pick(&[
+        first,
+        first,
+        near,
+        digits - 1,
+        digits,
+        first + any % (digits - first),
+        first | any,
+    ]);
+    match version {
+        11 => offset.next_multiple_of(100),
         _ => offset,
     }
 }
@@ -82,21 +108,14 @@ pub fn packed_all(rows: &[Fields]) -> Vec<u8> {
 pub fn changed(random: &mut Random, mut fields: Fields) -> Fields {
     let at = random.below(fields.len());
     let old = fields[at];
-    let limits = [
-        LAST_OFFSET + 1,
-        17,
-        0x800,
-        0x2000_0000,
-        1 << 48,
-        u64::MAX,
-        9,
-    ];
-    fields[at] = match random.below(6) {
+    let limits = [LAST_OFFSET, 17, 0x800, 0x2000_0000, 1 << 47, u64::MAX, 9];
+    fields[at] = match random.below(7) {
         0 => old.wrapping_add(1),
         1 => old.wrapping_sub(1),
         2 => old ^ 1 << random.below(64),
         3 => random.pick(&limits),
         4 => random.below(20) as u64,
+        5 => past_offset(random, 12),
         _ => random.number(),
     };
     fields

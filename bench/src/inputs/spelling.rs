@@ -2,9 +2,9 @@
 
 use super::numbers::Numbers;
 use super::random::Random;
-use super::records::{packed_all, record, Fields};
+use super::records::{packed_all, past_offset, record, Fields};
 use super::style::Style;
-use super::{LAST_NUMBER, LAST_START};
+use super::{LAST_NUMBER, LAST_OFFSET, LAST_START};
 
 pub struct Spelled {
     pub version: u64,
@@ -13,16 +13,19 @@ pub struct Spelled {
     pub text: Vec<u8>,
     /// The number of the first row, or 0 without rows.
     first: u64,
-    /// The line of the first row that has not the number which it must have, if there is one.
+    /// The line of the first row that has not the number which it must have, or has too large an offset, if there is one.
     pub wrong: Option<u64>,
 }
 
 impl Spelled {
-    /// A trace at random, spelled at random.
+    /// A trace at random, spelled at random. At times one row has too large an offset.
     pub fn new(random: &mut Random, most_rows: usize) -> Self {
         let version = random.pick(&[11, 12]);
         let count = random.mostly_small(most_rows + 1);
-        let rows = (0..count).map(|_| record(random, version)).collect();
+        let mut rows: Vec<Fields> = (0..count).map(|_| record(random, version)).collect();
+        if count > 0 && random.once_in(12) {
+            rows[random.below(count)][0] = past_offset(random, version);
+        }
         let numbers = Numbers::new(random, count);
         let style = Style::new(random);
         Self::of(random, version, rows, &numbers, &style)
@@ -53,7 +56,8 @@ impl Spelled {
                 first = number;
             }
             let spelled = (1..=LAST_NUMBER).contains(&number) && word == number.to_string();
-            if wrong.is_none() && !(spelled && number == first + before as u64) {
+            let good = spelled && number == first + before as u64 && fields[0] <= LAST_OFFSET;
+            if wrong.is_none() && !good {
                 wrong = Some(1 + text.iter().filter(|&&b| b == b'\n').count() as u64);
             }
             style.row(random, &mut text, version, &word, fields);

@@ -97,11 +97,9 @@ impl Style {
         fields: &Fields,
     ) -> Vec<String> {
         let [offset, bus, kind, extended, id, length, data] = *fields;
-        let (whole, part) = (offset / 1000, offset % 1000);
-        let mut words = vec![format!("{number})")];
-        match version {
-            11 => words.push(format!("{whole}.{}", part / 100)),
-            _ => words.extend([format!("{whole}.{part:03}"), bus.to_string()]),
+        let mut words = vec![format!("{number})"), offset_text(version, offset)];
+        if version == 12 {
+            words.push(bus.to_string());
         }
         words.push(["Rx", "Tx", "Rx", "Tx", "Warng", "Error"][kind as usize].to_string());
         words.push(match (kind, extended) {
@@ -143,6 +141,15 @@ impl Style {
                 digits.chars().map(small).collect()
             }
         }
+    }
+}
+
+/// An offset as a row of the version has it.
+pub fn offset_text(version: u64, offset: u64) -> String {
+    let (whole, part) = (offset / 1000, offset % 1000);
+    match version {
+        11 => format!("{whole}.{}", part / 100),
+        _ => format!("{whole}.{part:03}"),
     }
 }
 
