@@ -8,6 +8,7 @@ use bushingowl_bench::compare::inputs::one_input;
 use bushingowl_bench::compare::limits::limits;
 use bushingowl_bench::compare::lines::one_row;
 use bushingowl_bench::compare::long_lines::long_lines;
+use bushingowl_bench::compare::offset_limits::offset_limits;
 use bushingowl_bench::compare::runs::Runs;
 use bushingowl_bench::compare::Difference;
 use std::process::ExitCode;
@@ -38,6 +39,9 @@ fn main() -> ExitCode {
         if let Err(difference) = one_row(&mut runs) {
             return differs(&format!("lines of row {row}"), &difference);
         }
+    }
+    if let Err(difference) = offset_limits(&mut runs) {
+        return differs("offset limits", &difference);
     }
     if let Err(difference) = every_field(&mut runs).and_then(|()| long_lines(&mut runs)) {
         return differs("short fields and long lines", &difference);

@@ -129,9 +129,15 @@ fn spelled(runs: &mut Runs, kind: &'static str, next: fn(&mut Random, i64, i64) 
 }
 
 fn spelled_text(random: &mut Random, next: fn(&mut Random, i64, i64) -> i64) -> AsciiText {
+    let lines = lines(random, next);
+    text_of(random, lines)
+}
+
+/// These lines in any spelling.
+pub fn text_of(random: &mut Random, lines: Vec<Line>) -> AsciiText {
     let style = AsciiStyle::new(random);
     let mut text = AsciiText::default();
-    for line in lines(random, next) {
+    for line in lines {
         let spelled = style.line(random, &line) + style.end(random);
         text.push(spelled.as_bytes(), Some(line));
     }

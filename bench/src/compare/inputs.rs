@@ -128,8 +128,9 @@ fn unpack(runs: &mut Runs) -> Checked {
     let random = &mut runs.random;
     let version = random.pick(&[11, 12]);
     let mut record = packed(&record(random, version)).to_vec();
+    let mut kind = "unpack: other record";
     match random.below(5) {
-        0 => return runs.unpack("unpack: good record", &record),
+        0 => kind = "unpack: good record",
         1 | 2 => {
             let bit = random.below(160);
             record[bit / 8] ^= 1 << (bit % 8);
@@ -137,18 +138,21 @@ fn unpack(runs: &mut Runs) -> Checked {
         3 => record.fill_with(|| random.byte()),
         _ => record.resize(random.pick(&[0, 1, 19, 20, 21, 40]), 0),
     }
-    runs.unpack("unpack: other record", &record)
+    runs.unpack(kind, &record)?;
+    Ok(())
 }
 
 fn pack(runs: &mut Runs) -> Checked {
     let random = &mut runs.random;
     let version = random.pick(&[11, 12]);
     let mut fields = record(random, version);
-    if random.once_in(3) {
-        return runs.pack("pack: good fields", &fields);
+    let mut kind = "pack: good fields";
+    if !random.once_in(3) {
+        kind = "pack: other fields";
+        for _ in 0..random.pick(&[1, 1, 1, 2, 7]) {
+            fields = changed(random, fields);
+        }
     }
-    for _ in 0..random.pick(&[1, 1, 1, 2, 7]) {
-        fields = changed(random, fields);
-    }
-    runs.pack("pack: other fields", &fields)
+    runs.pack(kind, &fields)?;
+    Ok(())
 }

@@ -32,7 +32,7 @@ pub fn limits(runs: &mut Runs) -> Checked {
 }
 
 /// These rows, numbered from the first number on.
-fn spelled(runs: &mut Runs, version: u64, rows: Vec<Fields>, first: u64) -> Spelled {
+pub fn spelled(runs: &mut Runs, version: u64, rows: Vec<Fields>, first: u64) -> Spelled {
     let (numbers, style) = (Numbers::from_first(first), Style::plain());
     Spelled::of(&mut runs.random, version, rows, &numbers, &style)
 }
@@ -105,12 +105,12 @@ fn fill_up(text: &mut Vec<u8>) {
     }
 }
 
-fn expect(what: &str, number: u64, place: u64, answer: &[u64]) -> Checked {
+pub fn expect(what: &str, number: u64, place: u64, answer: &[u64]) -> Checked {
     if answer[..2] == [number, place] {
         return Ok(());
     }
     Err(Difference {
         what: format!("{what}: {number} at {place} is expected, {answer:?} was given"),
-        input: "a size limit".to_string(),
+        input: "a limit".to_string(),
     })
 }

@@ -10,6 +10,7 @@ pub mod inputs;
 pub mod limits;
 pub mod lines;
 pub mod long_lines;
+pub mod offset_limits;
 pub mod runs;
 mod tally;
 

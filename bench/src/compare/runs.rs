@@ -180,7 +180,7 @@ impl Runs {
         }
     }
 
-    pub fn unpack(&mut self, kind: &'static str, record: &[u8]) -> Result<(), Difference> {
+    pub fn unpack(&mut self, kind: &'static str, record: &[u8]) -> Result<[u64; 9], Difference> {
         let answer = self.both.unpack(record)?;
         self.tally.count(kind, answer[0]);
         if let [0, 0, fields @ ..] = answer {
@@ -190,10 +190,10 @@ impl Runs {
                 return Err(self.wrong("what was unpacked is not packed as the same", record));
             }
         }
-        Ok(())
+        Ok(answer)
     }
 
-    pub fn pack(&mut self, kind: &'static str, fields: &Fields) -> Result<(), Difference> {
+    pub fn pack(&mut self, kind: &'static str, fields: &Fields) -> Result<[u64; 2], Difference> {
         let room = self.random.pick(&[RECORD, RECORD, RECORD, 0, 19, 21, 100]);
         let answer = self.both.pack(fields, room)?;
         self.tally.count(kind, answer[0]);
@@ -205,7 +205,7 @@ impl Runs {
                 return Err(self.wrong("what was packed is not unpacked as the same", &record));
             }
         }
-        Ok(())
+        Ok(answer)
     }
 
     /// Explains a line as the row with a number. What must come of it may be known.
