@@ -12,6 +12,8 @@ use crate::inputs::{noise, LAST_START};
 
 /// Of a hundred inputs, those that are texts of Telemotive ASCII.
 const ASCII: usize = 45;
+/// Single records come so many at a time.
+const RECORDS: usize = 8;
 
 pub fn one_input(runs: &mut Runs) -> Checked {
     if runs.random.below(100) < ASCII {
@@ -25,8 +27,8 @@ pub fn one_input(runs: &mut Runs) -> Checked {
         14 => read(runs, "read: noise of a row's words", noise::words),
         15 => write(runs),
         16 => export(runs),
-        17 => unpack(runs),
-        _ => pack(runs),
+        17 => (0..RECORDS).try_for_each(|_| unpack(runs)),
+        _ => (0..RECORDS).try_for_each(|_| pack(runs)),
     }
 }
 
