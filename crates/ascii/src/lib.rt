@@ -12,7 +12,7 @@ use records::Entry;
 use records::record_at;
 use records::whole;
 ghost use mathlib.Core.Path.{_≡_};
-ghost use Prim.Native.Nat.{_+_, _/_, _≤_, _<_, _^_};
+ghost use Prim.Native.Nat.{_+_, _/_, _≤_};
 ghost use lib.ListN.{length};
 ghost use Rattle.base.specs.Limits.{offsetLimit};
 ghost use Rattle.digits.specs.inner.Pairs.{PairsOf};

@@ -1,5 +1,5 @@
 -- A field in a window of its own steps the state as it would anywhere: the first for every number that is expected, a long word as its first bytes do.
-use Prim.Native.Nat.{ℕ, _+_, _≤_}
+use Prim.Native.Nat.{ℕ, _≤_}
 use mathlib.Core.Path.{_≡_, refl, sym}
 use mathlib.Core.Logic.{_≢_}
 use mathlib.Core.List.{List, [], _∷_, _++_, append-nil}

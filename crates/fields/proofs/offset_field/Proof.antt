@@ -7,7 +7,7 @@ use native.Mathlib.Omega.{arith}
 use borrow.Author.Needs.{needs}
 use lib.ListN.{length, drop}
 use Rattle.fields.specs.Columns.{OffsetField}
-use Rattle.fields.specs.inner.Window.{FieldAt, Takes, not}
+use Rattle.fields.specs.inner.Window.{FieldAt, not}
 use Rattle.base.proofs.Tests.{shown-not, refuted-not}
 use Rattle.fields.proofs.Window.{inside}
 use Rattle.fields.proofs.DigitFields.{goes-on, OffsetTail, OffsetShape, offset-shape, offset-accept, scan-below}
