@@ -28,7 +28,7 @@ use Rattle.ascii_reader.specs.Text.{Lines, over, line, FirstStart, no-li
 use Rattle.ascii_reader.specs.Text
 use Rattle.ascii_reader.specs.Promise.{ReadAsciiPromise, large, refused, many, no-room, done}
 use Rattle.ascii_reader.proofs.Stops.{refused-numbers}
-use Rattle.ascii_reader.proofs.OwnLines.{Dated, onChannel, own-ended, own-line}
+use Rattle.ascii_reader.proofs.OwnLines.{Dated, line-back}
 
 -- The stamp of a line is the one that its start and offset give.
 line-stamp : {start : ℕ} {s : DateTime} {r : Record} {l : List ℕ} → AsciiLine s r l → instant s ≡ start * 1000 + r .offset → Stamp start (r .offset) s
@@ -59,12 +59,11 @@ returned {start} (line {s = s} {r = r} {rs = rs} {text = text} f a e h ls) =
     let k = a .frame .kind in
     let q = own-bus a in
     let y : lineOf s r ≡ lineText s (r .bus) r = ap (λ (n : ℕ). lineText s n r) q in
-    let z : onChannel r ≡ r = λ i. record { offset = r .offset; bus = q i; kind = r .kind; extended = r .extended; id = r .id; len = r .len; «data» = r .«data» } in
     record {
       out = lineOf s r ++ x .out;
       exports = export.line k t (x .exports);
       respelled = rw y (Text.Respelled.line f a (x .respelled));
-      lines = line (rw z at (own-ended w k t b (x .out))) (rw z at (own-line w k t b)) e h (x .lines);
+      lines = line-back w k t b (a .frame .first-channel) e (x .lines);
     }
 
 -- Every record that was read gives a line, and is well formed.

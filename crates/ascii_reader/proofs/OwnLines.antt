@@ -19,7 +19,7 @@ use Rattle.ascii.specs.Promise
 use Rattle.ascii.proofs.Answers.{stopped-number}
 use Rattle.ascii.proofs.Channels.{first-channel, own-channel, channel-most}
 use Rattle.ascii.proofs.Exporting.{exports-line, export-most}
-use Rattle.ascii_line_reader.specs.AsciiLine.{StampFits, FrameFits, AsciiLine}
+use Rattle.ascii_line_reader.specs.AsciiLine.{instant, StampFits, FrameFits, AsciiLine}
 use Rattle.ascii_line_reader.specs.inner.Answer.{tickLimit}
 use Rattle.ascii_line_reader.proofs.House.{houseLine, house-text, house-line, house-inside}
 use Rattle.ascii_reader.specs.Text.{EndedLine, Lines}
@@ -94,6 +94,14 @@ module _ {start : ℕ} {r : Record} {s : DateTime} (w : WellFormed r) (k : r .ki
         short = omega (arith, ap length e ∙ length-append (houseLine s (onChannel r)) (13 ∷ 10 ∷ []));
         ended = inl (ap (λ (x : List ℕ). x ++ rest) e ∙ append-assoc (houseLine s (onChannel r)) (13 ∷ 10 ∷ []) rest);
       }
+
+  -- on a bus of its own it is read as that record, with its offset, where the stamp cuts nothing off
+  pub line-back : {rs : List Record} {rest : List ℕ} → 1 ≤ r .bus → instant s ≡ start * 1000 + r .offset → Lines start rs rest
+      → Lines start (r ∷ rs) (lineOf s r ++ rest)
+  line-back {rest = rest} b e ls =
+      let q = own-channel (r .bus) (λ z. omega arith) in
+      let z : onChannel r ≡ r = λ i. record { offset = r .offset; bus = q i; kind = r .kind; extended = r .extended; id = r .id; len = r .len; «data» = r .«data» } in
+      Text.line (rw z at (own-ended rest)) (rw z at own-line) e (w .offset) ls
 
 -- A text of such lines alone.
 pub data SuchLines : List ℕ → Type 0 where

@@ -8,7 +8,7 @@ use native.Mathlib.Omega.{arith}
 use lib.Dec.{T, eqb, leb, leb→le}
 use lib.ListN.{length, getD, length-append}
 use Rattle.base.proofs.Tables.{every, at}
-use Rattle.digits.specs.Digits.{DecimalDigit, CasedDigit, figure, letter, HexDigit, capital, small, Digits, Hex}
+use Rattle.digits.specs.Digits.{DecimalDigit, CasedDigit, figure, letter, HexDigit, capital, small, Digits, Decimal, Padded, Hex}
 use Rattle.digits.proofs.Theorems.{one-decimal, one-padded, one-hex}
 use Rattle.fields.specs.Runs.{All, empty, more, halt}
 use Rattle.fields.specs.Columns.{NumberField, OffsetField, BusField, LengthField, IdField, standard, long, Capital, typeRx, typeTx, typeWarng, typeError, remoteText}
@@ -51,7 +51,7 @@ hexes : {b n : ℕ} {s : List ℕ} → Digits HexDigit b s n → All Plain s
 hexes r = all-map hex-digit-plain (digits-all r)
 
 -- Decimal digits before a byte that is none are the only ones.
-before : {m n x y : ℕ} {s t u v : List ℕ} → x < 48 → y < 48 → Digits DecimalDigit 10 s m → Digits DecimalDigit 10 t n
+pub before : {m n x y : ℕ} {s t u v : List ℕ} → x < 48 → y < 48 → Digits DecimalDigit 10 s m → Digits DecimalDigit 10 t n
     → s ++ (x ∷ u) ≡ t ++ (y ∷ v) → (s ≡ t) × (x ∷ u ≡ y ∷ v)
 before h k p q e = cut (digits-all p) (digits-all q) (halt (λ (d, r). omega (arith, r .byte))) (halt (λ (d, r). omega (arith, r .byte))) e
 
@@ -66,13 +66,15 @@ number-plain p = rw (p .bytes) (all-append (decimals (p .spelled .digits)) (more
 pub number-some : {k : ℕ} {f : List ℕ} → NumberField k f → 0 < length f
 number-some p = omega (arith, ap length (p .bytes) ∙ length-append (p .digits) (41 ∷ []))
 
+-- The digits on both sides of the point tell the offset.
+pub offset-value : {w a m n : ℕ} {f s t : List ℕ} → OffsetField w a f → f ≡ s ++ (46 ∷ t) → Decimal m s → Padded w n t → a ≡ m * 1000 + n * 10 ^ (3 - w)
+offset-value {w} {t = t} p e d q =
+    let r = before (omega arith) (omega arith) (p .first .digits) (d .digits) (sym (p .bytes) ∙ e) in
+    let i : p .part ≡ t = cc (r .1) in
+    p .value ∙ ap₂ (λ (x y : ℕ). x * 1000 + y * 10 ^ (3 - w)) (one-decimal (rw (r .0) at (p .first)) d) (one-padded (rw i at (p .second)) q)
+
 pub offset-one : {w a b : ℕ} {f : List ℕ} → OffsetField w a f → OffsetField w b f → a ≡ b
-offset-one {w} p q =
-    let r = before (omega arith) (omega arith) (p .first .digits) (q .first .digits) (sym (p .bytes) ∙ q .bytes) in
-    let m = one-decimal (rw (r .0) at (p .first)) (q .first) in
-    let e : p .part ≡ q .part = cc (r .1) in
-    let n = one-padded (rw e at (p .second)) (q .second) in
-    p .value ∙ ap₂ (λ (x y : ℕ). x * 1000 + y * 10 ^ (3 - w)) m n ∙ sym (q .value)
+offset-one p q = offset-value p (q .bytes) (q .first) (q .second) ∙ sym (q .value)
 
 pub offset-plain : {w a : ℕ} {f : List ℕ} → OffsetField w a f → All Plain f
 offset-plain p = rw (p .bytes) (all-append (decimals (p .first .digits)) (more (visible (omega arith)) (decimals (p .second .digits))))

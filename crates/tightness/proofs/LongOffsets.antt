@@ -1,7 +1,7 @@
 -- Offsets of 48 bits, one by one: 23 or 7 for one that fits them, as where the old limit is left in one place; a number past them taken; a digit too many;
 -- a bit cut off. Each is refuted over what the function promises, for every offset to which it applies.
 use Prim.Native.Nat.{ℕ, _+_, _*_, _-_, _%_, _^_, _≤_, _<_}
-use mathlib.Core.Path.{_≡_, refl, ap, ap₂, sym, _∙_}
+use mathlib.Core.Path.{_≡_, refl, ap, sym}
 use mathlib.Core.Logic.{_≢_}
 use mathlib.Core.List.{List, [], _∷_, _++_}
 use native.Mathlib.Omega.{arith}
@@ -11,7 +11,7 @@ use Rattle.base.specs.Limits.{offsetLimit}
 use Rattle.digits.specs.Digits.{DecimalDigit, Digits}
 use Rattle.digits.specs.House.{decimalText, paddedText}
 use Rattle.digits.proofs.House.{decimal-spells, padded-spells}
-use Rattle.digits.proofs.Theorems.{one-decimal, one-padded}
+use Rattle.clock.specs.declared.CalendarDay.{CalendarDay}
 use Rattle.clock.specs.declared.DateTime.{DateTime}
 use Rattle.clock.specs.Date.{leap, monthDays, before, beforeYear, Date}
 use Rattle.clock.specs.Start.{startLimit}
@@ -24,12 +24,10 @@ use Rattle.record.specs.Promise.{PackPromise, done, short, UnpackPromise, field
 use Rattle.record.specs.Promise
 use Rattle.record.proofs.OneRecord.{packs, packed-length, one-record}
 use Rattle.record.proofs.Promises.{unpacked-fields}
-use Rattle.fields.specs.Columns.{lastNumber, OffsetField}
+use Rattle.fields.specs.Columns.{lastNumber}
 use Rattle.fields.specs.Parted.{Parted}
-use Rattle.fields.specs.Runs.{halt}
+use Rattle.fields.proofs.Columns.{before as digits-before, offset-value}
 use Rattle.fields.proofs.Parts.{parted-one}
-use Rattle.fields.proofs.Runs.{cut}
-use Rattle.fields.proofs.Scans.{digits-all}
 use Rattle.row.specs.Row
 use Rattle.row.specs.House.{rowText}
 use Rattle.row.specs.Versions.{fractionDigits, Carries}
@@ -106,19 +104,10 @@ old-limit-in-a-row {o = o} w h c l u = row-refused (row-spelled (every-offset o 
 abbrev spelledAs : ℕ → ℕ → ℕ → List ℕ
 spelledAs w ms n = decimalText ms ++ (46 ∷ paddedText w n)
 
-value-of : {w o : ℕ} (ms n : ℕ) → n < 10 ^ w → OffsetField w o (spelledAs w ms n) → o ≡ ms * 1000 + n * 10 ^ (3 - w)
-value-of {w} {o} ms n l p =
-    let d = decimal-spells ms in
-    let c = cut (digits-all (d .digits)) (digits-all (p .first .digits)) (halt (λ h. omega arith)) (halt (λ h. omega arith)) (p .bytes) in
-    let m : p .ms ≡ ms = one-decimal (p .first) (rw (c .0) at d) in
-    let e : paddedText w n ≡ p .part = cc (c .1) in
-    let f : p .fraction ≡ n = one-padded (p .second) (rw e at (padded-spells w n l)) in
-    p .value ∙ ap₂ (λ (x y : ℕ). x * 1000 + y * 10 ^ (3 - w)) m f
-
 -- Past the largest offset: no row goes on with it.
 module _ (v ms n : ℕ) {a : List ℕ} (l : n < 10 ^ fractionDigits v) (h : offsetLimit < ms * 1000 + n * 10 ^ (3 - fractionDigits v)) where
-  no-fields : {k : ℕ} {r : Record} {fs : List (List ℕ)} → Row.RowFields v k r (a ∷ spelledAs (fractionDigits v) ms n ∷ fs) → ⊥
-  no-fields (Row.number x (Row.offset is o b)) = omega (arith, value-of ms n l o, o .limit)
+  pub no-fields : {k : ℕ} {r : Record} {fs : List (List ℕ)} → Row.RowFields v k r (a ∷ spelledAs (fractionDigits v) ms n ∷ fs) → ⊥
+  no-fields (Row.number x (Row.offset is o b)) = omega (arith, offset-value o refl (decimal-spells ms) (padded-spells (fractionDigits v) n l), o .limit)
 
   module _ {line : List ℕ} {fs : List (List ℕ)} (p : Parted (a ∷ spelledAs (fractionDigits v) ms n ∷ fs) line) where
     -- a row, taken with it
@@ -143,7 +132,7 @@ thirteen-digits {v} {k} {r = r} {a = a} {whole = whole} part d l p w = go (rw (p
   where
     go : {fs : List (List ℕ)} → Row.RowFields v k r (a ∷ (whole ++ (46 ∷ part)) ∷ fs) → ⊥
     go (Row.number x (Row.offset is o b)) =
-        let c = cut (digits-all d) (digits-all (o .first .digits)) (halt (λ h. omega arith)) (halt (λ h. omega arith)) (o .bytes) in
+        let c = digits-before (omega arith) (omega arith) d (o .first .digits) (o .bytes) in
         omega (arith, ap length (c .0), o .short)
 
 -- stamps
@@ -152,16 +141,22 @@ thirteen-digits {v} {k} {r = r} {a = a} {whole = whole} part d l p w = go (rw (p
 pub cut-in-a-stamp : {start o : ℕ} {s : DateTime} → 2 ^ 47 ≤ o → Stamp start o s → Stamp start (o % 2 ^ 47) s → ⊥
 cut-in-a-stamp h a b = omega (arith, a .time .high, b .time .low)
 
--- The last stamp of all lies on 14.09.2182, and none on a later day.
-pub latest-day : {start o : ℕ} {s : DateTime} → start ≤ startLimit → o ≤ offsetLimit → Stamp start o s → s .time .days ≤ 103257
-latest-day l h p = omega (arith, p .time .low)
+-- The last stamp of all lies on day 103,257, which is 14.09.2182, and none on a later day.
+abbrev latestDay : ℕ
+latestDay = 103257
 
-day-103257 : Date 103257 (record { day = 14; month = 9; year = 2182 })
+abbrev pub latestDate : CalendarDay
+latestDate = record { day = 14; month = 9; year = 2182 }
+
+latest-date : Date latestDay latestDate
 unfolding leap monthDays before beforeYear
-day-103257 = made 103257 2182 256 0 8 13 (omega arith) refl refl (omega arith) refl (omega arith)
+latest-date = made latestDay 2182 256 0 8 13 (omega arith) refl refl (omega arith) refl (omega arith)
 
-pub last-stamp : {s : DateTime} → Stamp startLimit offsetLimit s → s .date ≡ record { day = 14; month = 9; year = 2182 }
+pub none-later : {start o : ℕ} {s : DateTime} → start ≤ startLimit → o ≤ offsetLimit → Stamp start o s → s .time .days ≤ latestDay
+none-later l h p = omega (arith, p .time .low)
+
+pub last-stamp : {s : DateTime} → Stamp startLimit offsetLimit s → s .date ≡ latestDate
 last-stamp {s} p =
     let t = p .time in
-    let e : s .time .days ≡ 103257 = omega (arith, t .low, t .high, t .hour, t .minute, t .second, t .part) in
-    one-date (rw e at (p .date)) day-103257
+    let e : s .time .days ≡ latestDay = omega (arith, t .low, t .high, t .hour, t .minute, t .second, t .part) in
+    one-date (rw e at (p .date)) latest-date

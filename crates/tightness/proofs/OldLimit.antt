@@ -1,6 +1,6 @@
 -- Whole traces, lists and lines with an offset of 48 bits: each is refuted that is refused for it, as where the old limit is left in one place. Then a
 -- line that is read with its offset cut to 47 bits.
-use Prim.Native.Nat.{ℕ, suc, _+_, _*_, _%_, _^_, _≤_, _<_}
+use Prim.Native.Nat.{ℕ, _+_, _*_, _%_, _^_, _≤_, _<_}
 use mathlib.Core.Path.{_≡_, refl, ap}
 use mathlib.Core.List.{List, [], _∷_, _++_}
 use native.Mathlib.Omega.{arith}
@@ -24,13 +24,11 @@ use Rattle.trace_writer.specs.Promise.{WritePromise}
 use Rattle.trace_writer.specs.Promise as writing
 use Rattle.ascii.specs.Promise.{lineOf, ExportPromise}
 use Rattle.ascii.specs.Promise as exporting
-use Rattle.ascii.proofs.Channels.{own-channel}
-use Rattle.ascii_line_reader.specs.AsciiLine.{withOffset}
-use Rattle.ascii_line_reader.specs.inner.Answer.{tickLimit}
-use Rattle.ascii_reader.specs.Text.{Lines, over, line, cut, SpellsAscii}
+use Rattle.ascii_line_reader.specs.AsciiLine.{withOffset, instant}
+use Rattle.ascii_reader.specs.Text.{over, cut, SpellsAscii}
 use Rattle.ascii_reader.specs.Promise.{ReadAsciiPromise}
 use Rattle.ascii_reader.specs.Promise as returning
-use Rattle.ascii_reader.proofs.OwnLines.{onChannel, own-ended, own-line}
+use Rattle.ascii_reader.proofs.OwnLines.{Dated, line-back}
 use Rattle.ascii_reader.proofs.Stops as stops
 use Rattle.tightness.proofs.LongOffsets.{every-offset}
 use Rattle.tightness.proofs.ReadingAscii.{other-records}
@@ -74,24 +72,20 @@ module _ {r : Record} (w : WellFormed r) (o : ℕ) (h : o < 2 ^ 48) (front back 
       old-limit-in-read (reading.no-room s u m e z) = let y : _≡_ {A = ℕ} 7 8 = cc in omega arith
       old-limit-in-read (reading.refused s m e z) = not-refused s (there writable) m
 
--- The export's own line of a record is read as that record, if its offset is whole in 100 microseconds.
-line-read : {start : ℕ} {r : Record} {rs : List Record} {s : DateTime} {rest : List ℕ} → WellFormed r → r .kind ≤ 1 → 1 ≤ r .bus → Stamp start (r .offset) s
-    → start * 1000 + r .offset < 100 * suc tickLimit → r .offset % 100 ≡ 0 → Lines start rs rest → Lines start (r ∷ rs) (lineOf s r ++ rest)
-line-read {r = r} {rest = rest} w k b t d e ls =
-    let q = own-channel (r .bus) (λ z. omega arith) in
-    let z : onChannel r ≡ r = λ i. record { offset = r .offset; bus = q i; kind = r .kind; extended = r .extended; id = r .id; len = r .len; «data» = r .«data» } in
-    line (rw z at (own-ended w k t d rest)) (rw z at (own-line w k t d)) (omega (arith, t .time .low, t .time .high)) (w .offset) ls
+-- Two lines, the second so many microseconds behind the start. A stamp cuts nothing off an offset that is whole in 100 microseconds.
+whole-stamp : {start o : ℕ} {s : DateTime} → Stamp start o s → o % 100 ≡ 0 → instant s ≡ start * 1000 + o
+whole-stamp p e = omega (arith, p .time .low, p .time .high)
 
--- Two lines, the second so many microseconds behind the start.
 module _ {start o : ℕ} {r : Record} {s t : DateTime} (w : WellFormed r) (k : r .kind ≤ 1) (b : 1 ≤ r .bus) (h : o < 2 ^ 48) (e : o % 100 ≡ 0)
-    (d : start * 1000 + o < 100 * suc tickLimit) (p : Stamp start 0 s) (q : Stamp start o t) where
+    (d : Dated start (withOffset o r)) (p : Stamp start 0 s) (q : Stamp start o t) where
   abbrev two : List ℕ
   two = lineOf s (withOffset 0 r) ++ (lineOf t (withOffset o r) ++ [])
 
   spelled : SpellsAscii start (withOffset 0 r ∷ withOffset o r ∷ []) two
   spelled = record {
     first = cut {r = withOffset 0 r} (omega arith);
-    lines = line-read (every-offset 0 (omega arith) w) k b p (omega arith) refl (line-read (every-offset o h w) k b q d e over);
+    lines = line-back (every-offset 0 (omega arith) w) k p (omega arith) b (whole-stamp p refl)
+        (line-back (every-offset o h w) k q d b (whole-stamp q e) over);
   }
 
   -- read_ascii: 33

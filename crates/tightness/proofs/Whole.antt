@@ -7,10 +7,8 @@ use lib.ListN.{length, length-append}
 use Rattle.digits.specs.House.{spell, fixed, decimalText}
 use Rattle.digits.proofs.House.{decimal-spells}
 use Rattle.digits.proofs.Theorems.{one-decimal}
-use Rattle.fields.specs.Runs.{halt}
 use Rattle.fields.specs.Columns.{NumberField, BusField}
-use Rattle.fields.proofs.Runs.{cut}
-use Rattle.fields.proofs.Scans.{digits-all}
+use Rattle.fields.proofs.Columns.{before}
 use Rattle.record.specs.declared.Record.{Record}
 use Rattle.record.specs.Promise.{PackPromise, done, malformed, short}
 use Rattle.row.specs.Row
@@ -20,13 +18,14 @@ use Rattle.lines.specs.Lines.{StartLine}
 use Rattle.base.specs.Text.{text}
 use Rattle.papers.proofs.Rows.{fields-of, frame}
 use Rattle.papers.proofs.Starts.{parts-of, gives-only}
+use Rattle.tightness.proofs.LongOffsets.{no-fields}
 
 -- a row number past 999,999
 no-million : {k : ℕ} → NumberField k (text "1000000)") → ⊥
 unfolding decimalText spell
 no-million n =
     let d = decimal-spells 1000000 in
-    let c = cut (digits-all (d .digits)) (digits-all (n .spelled .digits)) (halt (λ h. omega arith)) (halt (λ h. omega arith)) (n .bytes) in
+    let c = before (omega arith) (omega arith) (d .digits) (n .spelled .digits) (n .bytes) in
     omega (arith, n .high, one-decimal (n .spelled) (rw (c .0) at d))
 
 pub row-1000000 : {k : ℕ} (r : Record) → Row.Row 11 k r (text "1000000) 0.0 Rx 0123 0") → ⊥
@@ -63,6 +62,19 @@ row-two-fraction-digits {k} r w = go (fields-of (text "1)" ∷ text "0.00" ∷ t
   where
     go : {n : List ℕ} {fs : List (List ℕ)} → Row.RowFields 12 k r (n ∷ text "0.00" ∷ fs) → ⊥
     go (Row.number n (Row.offset is12 o b)) = omega (arith, simp length-append at (ap length (o .bytes)), o .second .width, o .first .some)
+
+-- 281474976710.656 in version 1.2, and 281474976710.7 in version 1.1: a microsecond and a tenth of a millisecond past the largest offset
+pub row-past-48-bits : {k : ℕ} (r : Record) → Row.Row 12 k r (text "1) 281474976710.656 1 Rx 0123 0") → ⊥
+unfolding spaced joined decimalText spell fixed
+row-past-48-bits r w =
+    no-fields 12 281474976710 656 (omega arith) (omega arith)
+    (fields-of (text "1)" ∷ text "281474976710.656" ∷ text "1" ∷ text "Rx" ∷ text "0123" ∷ text "0" ∷ []) tt w)
+
+pub row-past-48-bits-11 : {k : ℕ} (r : Record) → Row.Row 11 k r (text "1) 281474976710.7 Rx 0123 0") → ⊥
+unfolding spaced joined decimalText spell fixed
+row-past-48-bits-11 r w =
+    no-fields 11 281474976710 7 (omega arith) (omega arith)
+    (fields-of (text "1)" ∷ text "281474976710.7" ∷ text "Rx" ∷ text "0123" ∷ text "0" ∷ []) tt w)
 
 -- day 100,000, which has six digits
 pub start-day-100000 : {ms : ℕ} → StartLine ms (text ";$STARTTIME=100000.0") → ⊥
