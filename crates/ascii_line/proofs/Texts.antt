@@ -6,6 +6,7 @@ use native.Mathlib.Decide.{ℕ-discrete}
 use native.Mathlib.Omega.{arith}
 use borrow.Author.Tests.{eq-eqb, ne-eqb}
 use lib.ListN.{length, length-append, drop-of-length-le}
+use Rattle.base.specs.Limits.{lastBus}
 use Rattle.base.specs.Spaced.{spaced}
 use Rattle.base.specs.inner.Wrote.{Wrote}
 use Rattle.base.proofs.Lists.{at-start}
@@ -159,5 +160,5 @@ standard-length n r h =
     let f : r .extended ≡ 1 → ⊥ = λ k. omega arith in
     omega (arith, frame-length n r, ap length (standard-source (r .extended) f), length-way (r .extended) (r .kind), ap length (standard-bar (r .extended) f), length-id r, length-data r)
 
-pub short-channel : (n : ℕ) → n ≤ 16 → length (decimalText n) ≤ 2
+pub short-channel : (n : ℕ) → n ≤ lastBus → length (decimalText n) ≤ 2
 short-channel n h = few 1 n (omega arith)

@@ -17,6 +17,7 @@ ghost use mathlib.Core.List.{_∷_};
 ghost use Prim.Native.Nat.{_+_, _≤_};
 ghost use lib.ListN.{length};
 ghost use Rattle.digits.specs.inner.Pairs.{PairsOf};
+ghost use Rattle.base.specs.Limits.{lastBus};
 ghost use Rattle.base.specs.Text.{blank};
 ghost use Rattle.base.specs.inner.Wrote.{Wrote};
 ghost use Rattle.digits.specs.declared.Letters.the-variants.{Small};
@@ -150,7 +151,7 @@ const EXTENDED_LINE: usize = 24 + 9 + 12 + 2 + 9 + 2 + 2;
 
 // How many bytes the line of a record on a channel is, whatever its stamp.
 pub fn line_length(channel: u64, r: Record) -> usize
-    requires { ⌜ (r .extended ≤ 1) × (channel ≤ 16) × (r .len ≤ 8) ⌝ }
+    requires { ⌜ (r .extended ≤ 1) × (channel ≤ lastBus) × (r .len ≤ 8) ⌝ }
     ensures { λ n. ⌜ ((s : AnyStamp) → n ≡ length (lineText s channel r)) × (n ≤ 86) ⌝ }
 {
     let number = decimal_length(channel);

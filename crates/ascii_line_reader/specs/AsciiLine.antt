@@ -3,6 +3,7 @@
 use Prim.Native.Nat.{ℕ, _+_, _*_, _^_, _≤_}
 use mathlib.Core.Path.{_≡_}
 use mathlib.Core.List.{List, [], _∷_, _++_}
+use Rattle.base.specs.Limits.{lastBus}
 use Rattle.base.specs.Text.{blank}
 use Rattle.digits.specs.Digits.{Hex}
 use Rattle.clock.specs.declared.DateTime.{DateTime}
@@ -57,7 +58,7 @@ pub record StampFits (s : DateTime) : Type 0 where
 -- Channel 1 to 16, received or sent, a standard ID up to 7FF or an extended one up to 1FFFFFFF, length 0 to 8.
 pub record FrameFits (r : Record) : Type 0 where
   pub first-channel : 1 ≤ r .bus
-  pub last-channel : r .bus ≤ 16
+  pub last-channel : r .bus ≤ lastBus
   pub kind : r .kind ≤ 1
   pub extended : r .extended ≤ 1
   pub standard : r .extended ≡ 0 → r .id ≤ 0x7FF

@@ -8,3 +8,7 @@ offsetDigits = 12
 -- The largest offset, in microseconds: the whole of the 48 bits that a record has for it.
 abbrev pub offsetLimit : ℕ
 offsetLimit = 281474976710655
+
+-- The last bus, and so the last channel of a line of Telemotive ASCII.
+abbrev pub lastBus : ℕ
+lastBus = 16

@@ -1,4 +1,4 @@
-// What every layer shares: the largest offset, one byte widened, bytes stored, the end of a line.
+// What every layer shares: the largest offset and the last bus, one byte widened, bytes stored, the end of a line.
 ghost use mathlib.Core.Path.{_≡_};
 ghost use mathlib.Core.List.{[], _∷_};
 ghost use Prim.Native.Nat.{_+_, _≤_, _<_};
@@ -11,6 +11,9 @@ pub const OFFSET_DIGITS: usize = 12;
 
 // The largest offset, in microseconds: the whole of the 48 bits that a record has for it.
 pub const OFFSET_LIMIT: u64 = 281_474_976_710_655;
+
+// The last bus, and so the last channel of a line of Telemotive ASCII.
+pub const LAST_BUS: u64 = 16;
 
 // A byte as a number. A read through it asks only for the index, where a cast would ask for the byte's range too.
 pub fn wide(b: u8) -> u64

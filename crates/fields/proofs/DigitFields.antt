@@ -9,7 +9,7 @@ use native.Mathlib.Omega.{arith}
 use native.Mathlib.Decide.{ℕ-discrete}
 use lib.ListN.{length, getD, drop, List·getD-append}
 use lib.Seq.{slice, length-slice, getD-drop}
-use Rattle.base.specs.Limits.{offsetDigits, offsetLimit}
+use Rattle.base.specs.Limits.{offsetDigits, offsetLimit, lastBus}
 use Rattle.base.proofs.Lists.{slice-snoc, cut}
 use Rattle.digits.specs.Digits.{DecimalDigit, HexDigit, Digits, Decimal}
 use Rattle.digits.specs.Digits.{none as no-digits, more as digits-more}
@@ -176,7 +176,7 @@ bus-lead w at a p = lead w at _ (p .spelled) (p .low) (a .bytes)
 
 pub record BusShape (w : List ℕ) (at : ℕ) (s : Scan) : Type 0 where
   pub some : at < s .end
-  pub high : s .value ≤ 16
+  pub high : s .value ≤ lastBus
   pub stop : End (getD w (s .end) 0)
 
 pub bus-shape : {w : List ℕ} {at v : ℕ} {s : Scan} {f rest : List ℕ} → Scanned DecimalDigit 10 offsetDigits w at s → FieldAt f rest (drop at w)

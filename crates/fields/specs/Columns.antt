@@ -4,7 +4,7 @@ use Prim.Native.Char.{code}
 use mathlib.Core.Path.{_≡_}
 use mathlib.Core.List.{List, [], _∷_, _++_}
 use lib.ListN.{length}
-use Rattle.base.specs.Limits.{offsetDigits, offsetLimit}
+use Rattle.base.specs.Limits.{offsetDigits, offsetLimit, lastBus}
 use Rattle.base.specs.Text.{text, bracket, point}
 use Rattle.digits.specs.Digits.{Decimal, Padded, Hex}
 use Rattle.digits.specs.House.{figureOf}
@@ -39,7 +39,7 @@ pub record OffsetField (w offset : ℕ) (f : List ℕ) : Type 0 where
 pub record BusField (bus : ℕ) (f : List ℕ) : Type 0 where
   pub spelled : Decimal bus f
   pub low : 1 ≤ bus
-  pub high : bus ≤ 16
+  pub high : bus ≤ lastBus
 
 -- `Rx`, `Tx`, `Warng` and `Error`, spelled exactly.
 abbrev pub typeRx : List ℕ

@@ -1,5 +1,6 @@
 // Skips the gap before a field of the window, and reads single fields of it. A field is read without searching its end first: what stops its digits must end it.
 // Each reader takes the window as a slice first, `bytes`: a proof learns the length of an array behind a reference in no other way.
+use base::LAST_BUS;
 use base::OFFSET_DIGITS;
 use base::OFFSET_LIMIT;
 use base::wide;
@@ -215,7 +216,7 @@ pub fn bus_field(w: &[u8; WINDOW], at: usize) -> Scan
     if e == at {
         return none();
     }
-    if 16 < s.value {
+    if LAST_BUS < s.value {
         return none();
     }
     if !ends(bytes[e]) {

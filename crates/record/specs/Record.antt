@@ -4,7 +4,7 @@ use mathlib.Core.Path.{_≡_}
 use mathlib.Core.Logic.{_⊎_}
 use mathlib.Core.List.{List}
 use lib.ListN.{getD}
-use Rattle.base.specs.Limits.{offsetLimit}
+use Rattle.base.specs.Limits.{offsetLimit, lastBus}
 use Rattle.record.specs.declared.Record.{Record}
 use Rattle.record.specs.Bytes.{bytes}
 
@@ -56,7 +56,7 @@ pub record ErrorFrame (r : Record) : Type 0 where
 -- 5 error frame.
 pub record WellFormed (r : Record) : Type 0 where
   pub offset : r .offset ≤ offsetLimit
-  pub bus : r .bus ≤ 16
+  pub bus : r .bus ≤ lastBus
   pub kind : r .kind ≤ 5
   pub extended : r .extended ≤ 1
   -- at most 7FF unless extended, 29 bits then

@@ -1,4 +1,5 @@
 // One packed record: its 160 bits as one number in twenty bytes, most significant first.
+use base::LAST_BUS;
 use base::OFFSET_LIMIT;
 use base::wide;
 ghost use mathlib.Core.Path.{_≡_};
@@ -145,7 +146,7 @@ pub fn well_formed(r: Record) -> bool
     if OFFSET_LIMIT < r.offset {
         return false;
     }
-    if 16 < r.bus {
+    if LAST_BUS < r.bus {
         return false;
     }
     if 5 < r.kind {

@@ -5,6 +5,7 @@ use mathlib.Core.Logic.{_≢_, _⊎_, inl, inr, ⊎-elim}
 use mathlib.Core.Bool.{Bool, true, false, cond}
 use native.Mathlib.Omega.{arith}
 use lib.Dec.{eqb}
+use Rattle.base.specs.Limits.{lastBus}
 use Rattle.record.specs.declared.Record.{Record}
 use Rattle.row.specs.Versions.{Version, is11, is12, fractionDigits, Carries, v11, v12}
 
@@ -61,9 +62,9 @@ carried-11 e (v12 a b) = absurd (omega arith)
 pub carries-11 : {r : Record} {v : ℕ} → v ≡ 11 → r .bus ≡ 0 → r .offset % 100 ≡ 0 → Carries r v
 carries-11 e a b = rw e (v11 a b)
 
-pub carried-12 : {r : Record} {v : ℕ} → (v ≡ 11 → ⊥) → Carries r v → (v ≡ 12) × (1 ≤ r .bus) × (r .bus ≤ 16)
+pub carried-12 : {r : Record} {v : ℕ} → (v ≡ 11 → ⊥) → Carries r v → (v ≡ 12) × (1 ≤ r .bus) × (r .bus ≤ lastBus)
 carried-12 f (v11 a b) = absurd (omega arith)
 carried-12 f (v12 a b) = (omega arith, a, b)
 
-pub carries-12 : {r : Record} {v : ℕ} → v ≡ 12 → 1 ≤ r .bus → r .bus ≤ 16 → Carries r v
+pub carries-12 : {r : Record} {v : ℕ} → v ≡ 12 → 1 ≤ r .bus → r .bus ≤ lastBus → Carries r v
 carries-12 e a b = rw e (v12 a b)

@@ -8,7 +8,7 @@ use native.Mathlib.Nat.{pow-suc, pow-succ', one-le-pow, zero-mod, mul-assoc, mul
 use native.Mathlib.Omega.{arith}
 use lib.Arith.{digits-lt}
 use lib.Pow.{pow-add}
-use Rattle.base.specs.Limits.{offsetLimit}
+use Rattle.base.specs.Limits.{offsetLimit, lastBus}
 use Rattle.digits.proofs.Theorems.{hex-below}
 use Rattle.fields.specs.Columns.{IdField, standard, long, lastNumber}
 use Rattle.record.specs.declared.Record.{Record}
@@ -73,7 +73,7 @@ module _ {r : Record} where
       }
   framed s l (Row.remote k d e) = record { kind = omega arith; eight = omega arith; past = rw d (zero-mod _); remote = λ _. d }
 
-  module _ (o : r .offset ≤ offsetLimit) (b : r .bus ≤ 16) where
+  module _ (o : r .offset ≤ offsetLimit) (b : r .bus ≤ lastBus) where
     frame-formed : {sent : ℕ} {fs : List (List ℕ)} → sent ≤ 1 → Row.FrameId sent r fs → WellFormed r
     frame-formed s (Row.frame-id i (Row.frame-length l d)) =
         let x = id-formed i in

@@ -4,6 +4,7 @@ use mathlib.Core.Path.{_≡_}
 use mathlib.Core.Bool.{Bool, cond}
 use mathlib.Core.List.{List, [], _∷_, _++_}
 use lib.Dec.{eqb}
+use Rattle.base.specs.Limits.{lastBus}
 use Rattle.base.specs.Text.{text, point}
 use Rattle.digits.specs.House.{figureOf}
 use Rattle.record.specs.declared.Record.{Record}
@@ -32,4 +33,4 @@ hasBus v = eqb v 12
 -- The records that a version can carry: 1.1 needs bus 0 and whole 100 microseconds, 1.2 needs bus 1 to 16.
 pub data Carries (r : Record) : ℕ → Type 0 where
   v11 : r .bus ≡ 0 → r .offset % 100 ≡ 0 → Carries r 11
-  v12 : 1 ≤ r .bus → r .bus ≤ 16 → Carries r 12
+  v12 : 1 ≤ r .bus → r .bus ≤ lastBus → Carries r 12

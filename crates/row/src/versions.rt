@@ -1,4 +1,5 @@
 // What each version of a trace decides, as `specs/Versions` has it.
+use base::LAST_BUS;
 use record::Record;
 ghost use mathlib.Core.Path.{_≡_};
 ghost use Rattle.base.specs.inner.Decides.{Decides};
@@ -54,7 +55,7 @@ pub fn carries(r: Record, version: u64) -> bool
     if r.bus == 0 {
         return false;
     }
-    if 16 < r.bus {
+    if LAST_BUS < r.bus {
         return false;
     }
     true

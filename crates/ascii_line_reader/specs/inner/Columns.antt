@@ -2,6 +2,7 @@
 use Prim.Native.Nat.{ℕ, _+_, _*_, _≤_, _<_}
 use mathlib.Core.Path.{_≡_}
 use mathlib.Core.List.{List}
+use Rattle.base.specs.Limits.{lastBus}
 use Rattle.digits.specs.Digits.{Hex}
 use Rattle.clock.specs.declared.CalendarDay.{CalendarDay}
 use Rattle.clock.specs.declared.DayTime.{DayTime}
@@ -34,7 +35,7 @@ pub record TypePart (extended : ℕ) (f : List ℕ) : Type 0 where
 pub record ChannelPart (channel : ℕ) (f : List ℕ) : Type 0 where
   pub bytes : f ≡ channelText channel
   pub low : 1 ≤ channel
-  pub high : channel ≤ 16
+  pub high : channel ≤ lastBus
 
 -- The direction: 0 received, 1 sent.
 pub record DirectionPart (kind : ℕ) (f : List ℕ) : Type 0 where
