@@ -5,8 +5,9 @@ use mathlib.Core.Logic.{_≢_}
 use mathlib.Core.List.{List, _++_}
 use native.Mathlib.Omega.{arith}
 use lib.ListN.{length, drop}
+use Rattle.clock.specs.Start.{startLimit}
 use Rattle.record.specs.declared.Record.{Record}
-use Rattle.records.specs.Records.{PacksAll}
+use Rattle.records.specs.Records.{Whole, PacksAll, FirstMalformed}
 use Rattle.records.proofs.Records.{packs-all-one, malformed-one, none-malformed}
 use Rattle.ascii.specs.declared.Exported.{Exported}
 use Rattle.ascii.specs.declared.Exported.the-variants as exported
@@ -30,11 +31,21 @@ stopped-number (no-records f) = omega arith
 stopped-number (late w l) = omega arith
 stopped-number (malformed w l f) = omega arith
 
--- What is given is none of them,
+-- 23 is that of a malformed record.
+pub stopped-23 : {start n p : ℕ} {s : List ℕ} → ExportStopped start s n p → n ≡ 23 → FirstMalformed s p
+stopped-23 (no-records f) e = absurd (omega arith)
+stopped-23 (late w l) e = absurd (omega arith)
+stopped-23 (malformed w l f) e = f
+
+-- What is whole, within the limits and made of records is none of them,
+pub never-stopped : {start n p : ℕ} {s : List ℕ} {rs : List Record} → Whole s → start ≤ startLimit → PacksAll rs s → ExportStopped start s n p → ⊥
+never-stopped w l r (no-records f) = f w
+never-stopped w l r (late v k) = omega arith
+never-stopped w l r (malformed v k f) = none-malformed r f
+
+-- so what is given is none,
 not-stopped : {start n p : ℕ} {s text : List ℕ} {rs : List Record} → Given start s rs text → ExportStopped start s n p → ⊥
-not-stopped g (no-records f) = f (g .whole)
-not-stopped g (late w l) = omega (arith, g .limit)
-not-stopped g (malformed w l f) = none-malformed (g .packs) f
+not-stopped g = never-stopped (g .whole) (g .limit) (g .packs)
 
 -- and is the only one.
 given-one : {start : ℕ} {s t u : List ℕ} {rs qs : List Record} → Given start s rs t → Given start s qs u → (rs ≡ qs) × (t ≡ u)

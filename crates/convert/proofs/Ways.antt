@@ -9,7 +9,7 @@ use Rattle.convert.specs.inner.Page.{PutOnPage, put}
 use Rattle.record.specs.declared.Record.{Record}
 use Rattle.records.specs.Records.{PacksAll}
 use Rattle.records.proofs.Packing.{packed-length}
-use Rattle.records.proofs.Records.{packs-all-one, none-malformed}
+use Rattle.records.proofs.Records.{packs-all-one}
 use Rattle.row.specs.Versions.{Version}
 use Rattle.row.proofs.EachVersion.{version-low}
 use Rattle.trace.specs.declared.Outcome.the-variants as outcome
@@ -23,6 +23,7 @@ use Rattle.trace_writer.proofs.Again.{Read, read-done}
 use Rattle.ascii.specs.declared.Exported.the-variants as exported
 use Rattle.ascii.specs.Promise.{exportNumbers, Numbered, is-refused, Exports, ExportPromise}
 use Rattle.ascii.specs.Promise as ascii
+use Rattle.ascii.proofs.Answers.{never-stopped}
 use Rattle.convert.specs.declared.Printed.{Printed}
 use Rattle.convert.specs.declared.Printed.the-variants as printed
 use Rattle.convert.specs.Promise.{inputLimit, refusalText, large, refused, export, TooShort, no-records, no-page, ConvertPromise, short}
@@ -72,11 +73,9 @@ module _ {version start first rows steps : ℕ} {input records x : List ℕ} (h 
 
   -- Records that were read are not refused.
   never : {n q : ℕ} → ascii.ExportStopped start (take (20 * rows) x) n q → ⊥
-  never (ascii.no-records f) =
+  never =
       let l = ap length (held .bytes) ∙ packed-length (reading .records) in
-      f (record { twenties = omega arith; few = omega (arith, rows-numbered (able .numbered)) })
-  never (ascii.late w l) = omega (arith, able .start)
-  never (ascii.malformed w l f) = none-malformed held f
+      never-stopped (record { twenties = omega arith; few = omega (arith, rows-numbered (able .numbered)) }) (able .start) held
 
   -- The text that they export to is that of the trace.
   of-trace : {text : List ℕ} {rs : List Record} → ascii.Given start (take (20 * rows) x) rs text → Exports start (reading .records) text

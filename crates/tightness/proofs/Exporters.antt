@@ -7,7 +7,8 @@ use native.Mathlib.Omega.{arith}
 use Rattle.record.specs.declared.Record.{Record}
 use Rattle.records.specs.Records.{PacksAll}
 use Rattle.records.proofs.Records.{packs-all-one}
-use Rattle.ascii.specs.Promise.{lineCount, leftCount, ExportStopped, ExportPromise}
+use Rattle.ascii.specs.Promise.{lineCount, leftCount, ExportPromise}
+use Rattle.ascii.proofs.Answers.{stopped-number}
 use Rattle.ascii.proofs.Exporting.{frame-line, frame-left}
 use Rattle.tightness.specs.Programs.{Exporter, KeepsExport}
 use Rattle.tightness.specs.Wrong.{Counted, none, frame, other, InventsLeftOut}
@@ -18,11 +19,6 @@ unfolding lineCount leftCount
 counts none = (refl, refl)
 counts (frame {r = r} k c) = let (a, b) = counts c in (omega (arith, frame-line r k), omega (arith, frame-line r k))
 counts (other {r = r} k c) = let (a, b) = counts c in (omega (arith, frame-left r k), omega (arith, frame-left r k))
-
-stopped-number : {start n p : ℕ} {s : List ℕ} → ExportStopped start s n p → 20 ≤ n
-stopped-number (ExportStopped.no-records f) = omega arith
-stopped-number (ExportStopped.late w l) = omega arith
-stopped-number (ExportStopped.malformed w l f) = omega arith
 
 counts-true : {start n p m lines left : ℕ} {s before x : List ℕ} {rs : List Record}
     → ExportPromise start s before (n ∷ p ∷ m ∷ lines ∷ left ∷ []) x → n ≡ 0 → PacksAll rs s → (lines ≡ lineCount rs) × (left ≡ leftCount rs)

@@ -10,6 +10,7 @@ use Rattle.trace.specs.Promise as reading
 use Rattle.trace_writer.specs.Promise as writing
 use Rattle.trace_writer.proofs.Answers.{stopped-numbers}
 use Rattle.ascii.specs.Promise as exporting
+use Rattle.ascii.proofs.Answers.{stopped-23}
 
 -- read: 2 to 7 are given with a line
 refused-at : {text : List ℕ} {n p : ℕ} → reading.RefusedAtLine text n p → 1 ≤ p
@@ -67,15 +68,10 @@ number-at-a-record (writing.no-room w s r e u) = let z : _≡_ {A = ℕ} 26 25 =
 number-at-a-record (writing.done w s r e u) = let z : _≡_ {A = ℕ} 26 0 = cc in omega arith
 
 -- export: 23 is given with a record
-exported-at : {start n p : ℕ} {s : List ℕ} → exporting.ExportStopped start s n p → 23 ≤ n → 1 ≤ p
-exported-at (exporting.no-records w) h = absurd (omega arith)
-exported-at (exporting.late w l) h = absurd (omega arith)
-exported-at (exporting.malformed w l f) h = omega (arith, f .at)
-
 pub export-record-lost : {start bytes lines left : ℕ} {s before after : List ℕ}
     → exporting.ExportPromise start s before (23 ∷ 0 ∷ bytes ∷ lines ∷ left ∷ []) after → ⊥
 export-record-lost (exporting.refused {n = n} {p = p} t e u) =
-    let y : 23 ≡ n = cc in let z : 0 ≡ p = cc in omega (arith, exported-at t (omega arith))
+    let y : n ≡ 23 = cc in let z : 0 ≡ p = cc in let f = stopped-23 t y in omega (arith, f .at)
 export-record-lost (exporting.no-room g l e u) = let z : _≡_ {A = ℕ} 23 25 = cc in omega arith
 export-record-lost (exporting.done g l e u) = let z : _≡_ {A = ℕ} 23 0 = cc in omega arith
 

@@ -24,6 +24,7 @@ use Rattle.trace_writer.specs.Promise.{WritePromise}
 use Rattle.trace_writer.specs.Promise as writing
 use Rattle.ascii.specs.Promise.{lineOf, ExportPromise}
 use Rattle.ascii.specs.Promise as exporting
+use Rattle.ascii.proofs.Answers.{stopped-23}
 use Rattle.ascii_line_reader.specs.AsciiLine.{withOffset, instant}
 use Rattle.ascii_reader.specs.Text.{over, cut, SpellsAscii}
 use Rattle.ascii_reader.specs.Promise.{ReadAsciiPromise}
@@ -43,9 +44,7 @@ module _ {r : Record} (w : WellFormed r) (o : ℕ) (h : o < 2 ^ 48) (front back 
 
   -- export: 23
   pub old-limit-in-export : {start : ℕ} {before after ns : List ℕ} → ExportPromise start (packed list) before (23 ∷ ns) after → ⊥
-  old-limit-in-export (exporting.refused (exporting.no-records x) e z) = let y : _≡_ {A = ℕ} 23 20 = cc in omega arith
-  old-limit-in-export (exporting.refused (exporting.late x l) e z) = let y : _≡_ {A = ℕ} 23 22 = cc in omega arith
-  old-limit-in-export (exporting.refused (exporting.malformed x l m) e z) = none-malformed given m
+  old-limit-in-export (exporting.refused {n = n} f e z) = let y : n ≡ 23 = cc in none-malformed given (stopped-23 f y)
   old-limit-in-export (exporting.no-room g l e z) = let y : _≡_ {A = ℕ} 23 25 = cc in omega arith
   old-limit-in-export (exporting.done g l e z) = let y : _≡_ {A = ℕ} 23 0 = cc in omega arith
 
