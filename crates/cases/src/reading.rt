@@ -92,7 +92,7 @@ fn again(s: &[u8], room: usize) {
             first,
         } => {
             written(version, start, first, &records, room);
-            exported(start, &records, room);
+            exported(start, &records, room, false);
         }
         Outcome::Refused {
             number: _,

@@ -1,10 +1,8 @@
 // Cases of reading Telemotive ASCII back.
 use crate::reading::packed;
 use crate::reading::size;
-use crate::records::refused;
-use crate::writing::lines;
+use crate::writing::exported;
 use crate::writing::page;
-use ascii::Exported;
 use ascii_reader::AsciiRead;
 use ascii_reader::read_ascii;
 use testing::before;
@@ -51,32 +49,9 @@ fn read_into(s: &[u8], out: &mut [u8], room: usize) {
 }
 
 // Reads lines into the first `room` bytes of a page.
-fn read(s: &[u8], room: usize) {
+pub(crate) fn read_lines(s: &[u8], room: usize) {
     let mut out = page();
     read_into(s, &mut out, room);
-}
-
-// Exports records into the first `room` bytes of a page, and reads what is exported.
-fn export_into(start: u64, records: &[u8], out: &mut [u8], room: usize) {
-    if room <= out.len() {
-        let e = ascii::export(start, records, &mut out[0..room]);
-        match e {
-            Exported::Done {
-                bytes,
-                lines: given,
-                left_out,
-            } => {
-                lines(bytes, given, left_out, out);
-                read(front(out, bytes), 240);
-            }
-            Exported::Refused { number: n, place } => refused(n, place, out),
-        }
-    }
-}
-
-fn exported(start: u64, records: &[u8], room: usize) {
-    let mut out = page();
-    export_into(start, records, &mut out, room);
 }
 
 // Reads lines, exports what is read, and reads that.
@@ -87,7 +62,7 @@ fn returned(s: &[u8], room: usize) {
         AsciiRead::Done {
             start,
             records: given,
-        } => exported(start, front(&records, size(given)), room),
+        } => exported(start, front(&records, size(given)), room, true),
         AsciiRead::Refused {
             number: _,
             place: _,
@@ -101,11 +76,11 @@ pub(crate) fn tried(word: u64, line: &[u8]) -> bool {
     let s = behind(behind(line, b':'), b' ');
     match word {
         ASCII => {
-            read(s, a[0] as usize);
+            read_lines(s, a[0] as usize);
             true
         }
         PART => {
-            read(front(s, a[1] as usize), a[0] as usize);
+            read_lines(front(s, a[1] as usize), a[0] as usize);
             true
         }
         RETURN => {

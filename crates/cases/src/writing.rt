@@ -2,6 +2,7 @@
 use crate::reading::read;
 use crate::records::records_of;
 use crate::records::refused;
+use crate::returned::read_lines;
 use ascii::Exported;
 use testing::before;
 use testing::behind;
@@ -42,7 +43,7 @@ fn write_into(version: u64, start: u64, first: u64, records: &[u8], out: &mut [u
     }
 }
 
-pub(crate) fn lines(bytes: usize, lines: u64, left_out: u64, out: &[u8]) {
+fn lines(bytes: usize, lines: u64, left_out: u64, out: &[u8]) {
     number(0);
     number(0);
     number(bytes as u64);
@@ -51,8 +52,9 @@ pub(crate) fn lines(bytes: usize, lines: u64, left_out: u64, out: &[u8]) {
     output(out, bytes);
 }
 
-// Exports records, into the first `room` bytes of a page: number, place, bytes, lines, records left out and text.
-fn export_into(start: u64, records: &[u8], out: &mut [u8], room: usize) {
+// Exports records, into the first `room` bytes of a page: number, place, bytes, lines, records left out and text; and, if it is wanted, what is read
+// back from it.
+fn export_into(start: u64, records: &[u8], out: &mut [u8], room: usize, back: bool) {
     if room <= out.len() {
         let e = ascii::export(start, records, &mut out[0..room]);
         match e {
@@ -60,7 +62,12 @@ fn export_into(start: u64, records: &[u8], out: &mut [u8], room: usize) {
                 bytes,
                 lines: given,
                 left_out,
-            } => lines(bytes, given, left_out, out),
+            } => {
+                lines(bytes, given, left_out, out);
+                if back {
+                    read_lines(front(out, bytes), 240);
+                }
+            }
             Exported::Refused { number: n, place } => refused(n, place, out),
         }
     }
@@ -71,9 +78,9 @@ pub(crate) fn written(version: u64, start: u64, first: u64, records: &[u8], room
     write_into(version, start, first, records, &mut out, room);
 }
 
-pub(crate) fn exported(start: u64, records: &[u8], room: usize) {
+pub(crate) fn exported(start: u64, records: &[u8], room: usize, back: bool) {
     let mut out = page();
-    export_into(start, records, &mut out, room);
+    export_into(start, records, &mut out, room, back);
 }
 
 // Writes the first bytes of records.
@@ -91,7 +98,7 @@ fn write(a: [u64; 9], s: &[u8]) {
 // Exports the first bytes of records.
 fn export(a: [u64; 9], s: &[u8]) {
     let records = records_of(s, a[3] as usize);
-    exported(a[0], front(&records, a[1] as usize), a[2] as usize);
+    exported(a[0], front(&records, a[1] as usize), a[2] as usize, false);
 }
 
 // Tries a case of several records, if the word is one. The records stand behind a colon and a blank.
