@@ -29,6 +29,7 @@ mod c {
         pub fn bo_pack(fields: *const u64, out: *mut u8, out_len: usize, answer: *mut u64);
         pub fn bo_export(
             start: u64,
+            channel: u64,
             records: *const u8,
             records_len: usize,
             out: *mut u8,
@@ -109,12 +110,13 @@ pub fn pack(fields: &[u64; 7], out: &mut [u8]) -> [u64; 2] {
     answer
 }
 
-pub fn export(start: u64, records: &[u8], out: &mut [u8]) -> [u64; 5] {
+pub fn export(start: u64, channel: u64, records: &[u8], out: &mut [u8]) -> [u64; 5] {
     let mut answer = [UNSET; 5];
     // SAFETY: see above; the answer has room for the five numbers of the header.
     unsafe {
         c::bo_export(
             start,
+            channel,
             records.as_ptr(),
             records.len(),
             out.as_mut_ptr(),

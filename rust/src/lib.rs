@@ -71,6 +71,12 @@ pub const MOST_START: u64 = 8_639_999_999_999;
 /// The largest offset, which fills its 48 bits of a packed record: almost nine years. In a row it is `281474976710.655`;
 /// version 1.1 goes up to `281474976710.6`.
 pub const MOST_OFFSET: u64 = 281_474_976_710_655;
+/// The last channel, which is that of the last bus.
+pub const MOST_CHANNEL: u64 = 16;
+/// Exports bus 0 as channel 0, so each bus as the channel of its number: what is exported so comes back on its bus.
+pub const CHANNEL_AS_BUS: u64 = 0;
+/// Exports bus 0 as channel 1, as the bench program prints it. It comes back as bus 1.
+pub const CHANNEL_AS_BENCH: u64 = 1;
 
 /// What a text holds beside its records.
 #[derive(Clone, Copy, Debug, PartialEq, Eq, Hash)]
@@ -252,8 +258,13 @@ pub fn write_to_vec(
 /// assert_eq!(&lines[..exported.bytes], b"29.02.2000 12:00:01.5002 CANExt #2 | EXTENDED Tx 18ab0001 0\r\n");
 /// # Ok::<(), bushingowl::Refused>(())
 /// ```
-pub fn export(start: u64, records: &[u8], out: &mut [u8]) -> Result<Exported, Refused> {
-    let [number, place, bytes, lines, left_out] = numbers::export(start, records, out);
+pub fn export(
+    start: u64,
+    channel: u64,
+    records: &[u8],
+    out: &mut [u8],
+) -> Result<Exported, Refused> {
+    let [number, place, bytes, lines, left_out] = numbers::export(start, channel, records, out);
     accepted(number, place)?;
     Ok(Exported {
         bytes: bytes as usize,
@@ -271,9 +282,13 @@ pub fn export(start: u64, records: &[u8], out: &mut [u8]) -> Result<Exported, Re
 /// assert_eq!((exported.lines, lines.len()), (0, 0));
 /// # Ok::<(), bushingowl::Refused>(())
 /// ```
-pub fn export_to_vec(start: u64, records: &[u8]) -> Result<(Exported, Vec<u8>), Refused> {
+pub fn export_to_vec(
+    start: u64,
+    channel: u64,
+    records: &[u8],
+) -> Result<(Exported, Vec<u8>), Refused> {
     let mut lines = vec![0; record_count(records) * MOST_LINE];
-    let exported = export(start, records, &mut lines)?;
+    let exported = export(start, channel, records, &mut lines)?;
     lines.truncate(exported.bytes);
     Ok((exported, lines))
 }

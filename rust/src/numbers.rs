@@ -25,8 +25,8 @@ pub fn pack(fields: &[u64; 7], out: &mut [u8]) -> [u64; 2] {
 }
 
 /// Number, place, bytes, lines, records left out.
-pub fn export(start: u64, records: &[u8], out: &mut [u8]) -> [u64; 5] {
-    boundary::export(start, records, out)
+pub fn export(start: u64, channel: u64, records: &[u8], out: &mut [u8]) -> [u64; 5] {
+    boundary::export(start, channel, records, out)
 }
 
 /// Number, place, start, records.

@@ -26,12 +26,12 @@ def read(text, room):
     packed = b''.join(map(records.bits, found)).hex()
     return numbers(seven) + ('' if seven[0] else ' ' + packed) + ' untouched'
 
-def again(text, room):
+def again(text, room, channel):
     (number, _, version, start, _, _, first), found = traces.read(text, 60)
     if number: return 'none'
     s = b''.join(map(records.bits, found))
     assert len(s) == 60, text
-    return written(version, start, first, s, room) + ' ' + exported(start, s, room)
+    return written(version, start, first, s, room) + ' ' + exported(start, channel, s, room)
 
 def row(text, version, number):
     r = rows.row(version, number, text)
@@ -48,12 +48,12 @@ def ascii_read(text, room):
     packed = b''.join(map(records.bits, found)).hex()
     return numbers(four) + ('' if four[0] else ' ' + packed) + ' untouched'
 
-def returned(text, room):
+def returned(text, room, channel):
     (number, _, start, _), found = read_ascii.read(text, 700)
     if number: return 'none'
     s = b''.join(map(records.bits, found))
-    number, _, made, *_ = ascii_lines.export(start, s, room)
-    return exported(start, s, room) + ('' if number else ' ' + ascii_read(made.encode(), 240))
+    number, _, made, *_ = ascii_lines.export(start, channel, s, room)
+    return exported(start, channel, s, room) + ('' if number else ' ' + ascii_read(made.encode(), 240))
 
 # One record, and one row
 
@@ -91,13 +91,13 @@ def written(version, start, first, s, room):
     if number: return refused(number, place)
     return '0 0 %d %s untouched %s' % (len(text), shown(text), read(text.encode(), 240))
 
-def exported(start, s, room):
-    number, place, text, lines, left_out = ascii_lines.export(start, s, room)
+def exported(start, channel, s, room):
+    number, place, text, lines, left_out = ascii_lines.export(start, channel, s, room)
     return refused(number, place) if number else '0 0 %d %d %d %s untouched' % (len(text), lines, left_out, shown(text))
 
 def write(text, version, start, first, count, room, own=0): return written(version, start, first, records_of(text, own)[:count], room)
 
-def export(text, start, count, room, own=0): return exported(start, records_of(text, own)[:count], room)
+def export(text, start, channel, count, room, own=0): return exported(start, channel, records_of(text, own)[:count], room)
 
 # Digits and time
 
@@ -126,14 +126,14 @@ def noise(text, seed, count, low):
 # The cases: how many numbers each takes, and what comes back for its text and its numbers
 
 ARMS = {
-    'read': (1, read), 'cut': (2, lambda text, room, count: read(text[:count], room)), 'again': (1, again), 'row': (2, row),
-    'pack': (8, pack), 'unpack': (9, unpack), 'put': (9, put), 'write': (6, write), 'export': (4, export),
+    'read': (1, read), 'cut': (2, lambda text, room, count: read(text[:count], room)), 'again': (2, again), 'row': (2, row),
+    'pack': (8, pack), 'unpack': (9, unpack), 'put': (9, put), 'write': (6, write), 'export': (5, export),
     'decimal': (0, lambda text: found(digits.decimal(text))), 'padded': (0, lambda text: found(digits.padded(text))),
     'hex': (0, lambda text: found(digits.hexadecimal(text))), 'digits': (2, spelled),
     'start': (1, lambda text, days: str(clock.start(days, text))), 'fraction': (1, fraction),
     'date': (1, lambda text, days: numbers(clock.day(days))), 'stamp': (2, lambda text, start, offset: numbers(clock.stamp(start, offset))),
     'explain': (2, explained), 'begin': (3, lambda text, version, number, count: explained(text[:count], version, number)),
-    'ascii': (1, ascii_read), 'part': (2, lambda text, room, count: ascii_read(text[:count], room)), 'return': (1, returned),
+    'ascii': (1, ascii_read), 'part': (2, lambda text, room, count: ascii_read(text[:count], room)), 'return': (2, returned),
     'convert': (2, converted), 'long': (1, long), 'noise': (3, noise),
 }
 
@@ -159,9 +159,9 @@ for family in open(sys.argv[1], encoding='ascii').read().split('\n'):
 
 PAPER = r'''
 read room 100 small trace: %1) 0.000 1 Rx 0123 2 0A FF\r\n2) 1500.250 2 Tx 18AB0001 0\r\n3) 1500.249 1 Rx 0124 3 RTR\r\n -> 0 0 12 3160987200000 3 3 1 000000000000080000048c82bfc0000000000000
-again room 300 small trace: %1) 0.000 1 Rx 0123 2 0A FF\r\n2) 1500.250 2 Tx 18AB0001 0\r\n3) 1500.249 1 Rx 0124 3 RTR\r\n -> 0 0 135 ;$FILEVERSION=1.2\r\n;$STARTTIME=36585.5000000000\r\n1) 0.000 1 Rx 0123 2 0A FF\r\n2) 1500.250 2 Tx 18AB0001 0\r\n3) 1500.249 1 Rx 0124 3 RTR\r\n untouched 0 0 12 3160987200000 3 3 1 000000000000080000048c82bfc0000000000000
+again room 300 channel 1 small trace: %1) 0.000 1 Rx 0123 2 0A FF\r\n2) 1500.250 2 Tx 18AB0001 0\r\n3) 1500.249 1 Rx 0124 3 RTR\r\n -> 0 0 135 ;$FILEVERSION=1.2\r\n;$STARTTIME=36585.5000000000\r\n1) 0.000 1 Rx 0123 2 0A FF\r\n2) 1500.250 2 Tx 18AB0001 0\r\n3) 1500.249 1 Rx 0124 3 RTR\r\n untouched 0 0 12 3160987200000 3 3 1 000000000000080000048c82bfc0000000000000
 write version 12 start 3160987200000 first 1 bytes 60 room 135: % -> 0 0 135 ;$FILEVERSION=1.2\r\n;$STARTTIME=36585.5000000000\r\n1) 0.000 1 Rx 0123 2 0A FF\r\n2) 1500.250 2 Tx 18AB0001 0\r\n3) 1500.249 1 Rx 0124 3 RTR\r\n untouched 0 0 12 3160987200000 3 3 1 000000000000080000048c82bfc0000000000000
-export start 3160987200000 bytes 60 room 111: % -> 0 0 111 2 1 29.02.2000 12:00:00.0000 CAN #1 | Rx 123 2 0a ff\r\n29.02.2000 12:00:01.5002 CANExt #2 | EXTENDED Tx 18ab0001 0\r\n untouched
+export start 3160987200000 channel 1 bytes 60 room 111: % -> 0 0 111 2 1 29.02.2000 12:00:00.0000 CAN #1 | Rx 123 2 0a ff\r\n29.02.2000 12:00:01.5002 CANExt #2 | EXTENDED Tx 18ab0001 0\r\n untouched
 convert records 72800 page 313040 small trace: %1) 0.000 1 Rx 0123 2 0A FF\r\n2) 1500.250 2 Tx 18AB0001 0\r\n3) 1500.249 1 Rx 0124 3 RTR\r\n -> 111 29.02.2000 12:00:00.0000 CAN #1 | Rx 123 2 0a ff\r\n29.02.2000 12:00:01.5002 CANExt #2 | EXTENDED Tx 18ab0001 0\r\n untouched
 read room 100 day 0: ;$FILEVERSION=1.2\r\n;$STARTTIME=0.0\r\n -> 0 0 12 0 0 0 0
 read room 100 day 37704, last digits 33: ;$FILEVERSION=1.2\r\n;$STARTTIME=37704.5364870833\r\n -> 0 0 12 3257671952484 0 0 0
@@ -176,7 +176,7 @@ read room 100 length 0 with one byte: %1) 0.000 1 Rx 0123 0 00\r\n -> 7 3 0 0 0 
 read room 100 length 8 with RTR: %1) 0.000 1 Rx 0123 8 RTR\r\n -> 0 0 12 3160987200000 1 0 1
 pack offset 0 bus 1 kind 0 extended 0 id x123 length 2 data x0AFF000000000000 room 20 -> 0 0 000000000000080000048c82bfc0000000000000
 unpack offset 0 bus 1 kind 0 extended 0 id x123 length 2 data x0AFF000000000000 spare 0 bytes 20 -> 000000000000080000048c82bfc0000000000000 0 0
-export start 3160944000000 bytes 20 room 300: % -> 0 0 50 1 0 29.02.2000
+export start 3160944000000 channel 1 bytes 20 room 300: % -> 0 0 50 1 0 29.02.2000
 start day 0: 0 -> 0
 start day 37704: 5364870833 -> 3257671952484
 start day 39878: 6772258947 -> 3445517712317
@@ -237,7 +237,7 @@ read room 100 gap in the middle: %4117) 0.000 1 Rx 0123 0\r\n4118) 0.000 1 Rx 01
 read room 100 no rows, but a comment like one: %;4117) 0.000 1 Rx 0123 0\r\n; 1) 0.000 1 Rx 0123 0\r\n -> 0 0 12 3160987200000 0 0 0
 read room 100 comment like row 1 before row 4117: %;1) 0.000 1 Rx 0123 0\r\n4117) 0.000 1 Rx 0123 0\r\n -> 0 0 12 3160987200000 1 0 4117
 read room 100 row 4119 at 5.499: %4117) 5.000 1 Rx 0123 0\r\n4118) 5.500 1 Rx 0123 0\r\n4119) 5.499 1 Rx 0123 0\r\n -> 0 0 12 3160987200000 3 3 4117
-again room 144 from row 4117: %4117) 0.000 1 Rx 0123 2 0A FF\r\n4118) 1500.250 2 Tx 18AB0001 0\r\n4119) 1500.249 1 Rx 0124 3 RTR\r\n -> 0 0 144 ;$FILEVERSION=1.2\r\n;$STARTTIME=36585.5000000000\r\n4117) 0.000 1 Rx 0123 2 0A FF\r\n4118) 1500.250 2 Tx 18AB0001 0\r\n4119) 1500.249 1 Rx 0124 3 RTR\r\n untouched 0 0 12 3160987200000 3 3 4117 000000000000080000048c82bfc0000000000000
+again room 144 channel 1 from row 4117: %4117) 0.000 1 Rx 0123 2 0A FF\r\n4118) 1500.250 2 Tx 18AB0001 0\r\n4119) 1500.249 1 Rx 0124 3 RTR\r\n -> 0 0 144 ;$FILEVERSION=1.2\r\n;$STARTTIME=36585.5000000000\r\n4117) 0.000 1 Rx 0123 2 0A FF\r\n4118) 1500.250 2 Tx 18AB0001 0\r\n4119) 1500.249 1 Rx 0124 3 RTR\r\n untouched 0 0 12 3160987200000 3 3 4117 000000000000080000048c82bfc0000000000000
 write version 12 start 0 first 0 bytes 0 room 300: % -> 0 0 45 ;$FILEVERSION=1.2\r\n;$STARTTIME=0.0000000000\r\n untouched 0 0 12 0 0 0 0  untouched
 write version 12 start 0 first 1 bytes 0 room 300: % -> 26 0 untouched
 write version 12 start 0 first 0 bytes 20 room 300: % -> 26 0 untouched
@@ -267,9 +267,9 @@ explain version 11 number 999999: 999999) 0.0 Rx 0123 0 -> 30 0 0 0
 explain version 11 number 999999: 999998) 0.0 Rx 0123 0 -> 0 0 1 1
 explain version 11 number 1000000: 1000000) 0.0 Rx 0123 0 -> 30 0 0 0
 ascii room 100 small trace: % -> 0 0 3160987200000 2 000000000000080000048c82bfc000000000000000000016e42811e2ac0004000000000000000000 untouched
-return room 300 small trace: % -> 0 0 111 2 0 29.02.2000 12:00:00.0000 CAN #1 | Rx 123 2 0a ff\r\n29.02.2000 12:00:01.5002 CANExt #2 | EXTENDED Tx 18ab0001 0\r\n untouched 0 0 3160987200000 2 000000000000080000048c82bfc000000000000000000016e42811e2ac0004000000000000000000 untouched
-return room 110 small trace: % -> 25 0 untouched
-return room 300 LF: 29.02.2000 12:00:00.0000 CAN #1 | Rx 123 2 0a ff\n29.02.2000 12:00:01.5002 CANExt #2 | EXTENDED Tx 18ab0001 0\n -> 0 0 111 2 0 29.02.2000 12:00:00.0000 CAN #1 | Rx 123 2 0a ff\r\n29.02.2000 12:00:01.5002 CANExt #2 | EXTENDED Tx 18ab0001 0\r\n untouched
+return room 300 channel 0 small trace: % -> 0 0 111 2 0 29.02.2000 12:00:00.0000 CAN #1 | Rx 123 2 0a ff\r\n29.02.2000 12:00:01.5002 CANExt #2 | EXTENDED Tx 18ab0001 0\r\n untouched 0 0 3160987200000 2 000000000000080000048c82bfc000000000000000000016e42811e2ac0004000000000000000000 untouched
+return room 110 channel 0 small trace: % -> 25 0 untouched
+return room 300 channel 0 LF: 29.02.2000 12:00:00.0000 CAN #1 | Rx 123 2 0a ff\n29.02.2000 12:00:01.5002 CANExt #2 | EXTENDED Tx 18ab0001 0\n -> 0 0 111 2 0 29.02.2000 12:00:00.0000 CAN #1 | Rx 123 2 0a ff\r\n29.02.2000 12:00:01.5002 CANExt #2 | EXTENDED Tx 18ab0001 0\r\n untouched
 part room 100 bytes 0: % -> 0 0 0 0  untouched
 part room 100 bytes 49: % -> 31 1 0 0 untouched
 part room 100 bytes 50: % -> 0 0 3160987200000 1 000000000000080000048c82bfc0000000000000 untouched
@@ -279,7 +279,7 @@ ascii room 19 one line: 29.02.2000 12:00:00.0000 CAN #1 | Rx 123 2 0a ff\r\n -> 
 ascii room 20 one line: 29.02.2000 12:00:00.0000 CAN #1 | Rx 123 2 0a ff\r\n -> 0 0 3160987200000 1 000000000000080000048c82bfc0000000000000 untouched
 ascii room 39 small trace: % -> 8 0 0 0 untouched
 ascii room 0 no lines:  -> 0 0 0 0  untouched
-return room 0 no lines:  -> 0 0 0 0 0  untouched 0 0 0 0  untouched
+return room 0 channel 0 no lines:  -> 0 0 0 0 0  untouched 0 0 0 0  untouched
 ascii room 0 a line that is none comes before a short room: 29.02.2000 12:00:00.0000 CAN #1 | Rx 123 2 0a ff\r\nx\r\n -> 31 2 0 0 untouched
 ascii room 100 not ended: % 2 0a ff -> 31 1 0 0 untouched
 ascii room 100 ended by CR: % 2 0a ff\r -> 31 1 0 0 untouched
@@ -300,7 +300,7 @@ ascii room 100 RX for Rx: % CAN #1 | RX 123 0\r\n -> 31 1 0 0 untouched
 ascii room 100 EXTENDED with CAN and eight digits: % CAN #1 | EXTENDED Rx 00000123 0\r\n -> 31 1 0 0 untouched
 ascii room 100 CANExt without EXTENDED and eight digits: % CANExt #1 | Rx 00000123 0\r\n -> 31 1 0 0 untouched
 ascii room 100 Tx: % CAN #1 | Tx 123 0\r\n -> 0 0 3160987200000 1 000000000000090000048c000000000000000000 untouched
-ascii room 100 channel 0: % CAN #0 | Rx 123 0\r\n -> 31 1 0 0 untouched
+ascii room 100 channel 0: % CAN #0 | Rx 123 0\r\n -> 0 0 3160987200000 1 000000000000000000048c000000000000000000 untouched
 ascii room 100 channel 16: % CAN #16 | Rx 123 0\r\n -> 0 0 3160987200000 1 000000000000800000048c000000000000000000 untouched
 ascii room 100 channel 17: % CAN #17 | Rx 123 0\r\n -> 31 1 0 0 untouched
 ascii room 100 channel 1 with a zero before: % CAN #01 | Rx 123 0\r\n -> 31 1 0 0 untouched
@@ -332,7 +332,7 @@ ascii room 100 time 24h00m00.0000: 29.02.2000 24:00:00.0000% -> 31 1 0 0 untouch
 ascii room 100 first stamp of all: 30.12.1899 00:00:00.0000% -> 0 0 0 1 000000000000080000048c000000000000000000 untouched
 ascii room 100 last stamp of all: 13.10.2173 23:59:59.9999% -> 0 0 8639999999999 1 000000000384080000048c000000000000000000 untouched
 ascii room 100 first stamp with 9 tenths of a millisecond: 29.02.2000 12:00:00.0009% -> 0 0 3160987200000 1 000000000384080000048c000000000000000000 untouched
-return room 300 first stamp with 9 tenths of a millisecond: 29.02.2000 12:00:00.0009% -> 0 0 44 1 0 29.02.2000 12:00:00.0009 CAN #1 | Rx 123 0\r\n untouched 0 0 3160987200000 1 000000000384080000048c000000000000000000 untouched
+return room 300 channel 0 first stamp with 9 tenths of a millisecond: 29.02.2000 12:00:00.0009% -> 0 0 44 1 0 29.02.2000 12:00:00.0009 CAN #1 | Rx 123 0\r\n untouched 0 0 3160987200000 1 000000000384080000048c000000000000000000 untouched
 ascii room 100 second stamp 0.9 ms before, at the start: 29.02.2000 12:00:00.0009%29.02.2000 12:00:00.0000% -> 0 0 3160987200000 2 000000000384080000048c000000000000000000000000000000080000048c000000000000000000 untouched
 ascii room 100 second stamp 0.1 ms before the start: 29.02.2000 12:00:00.0019%29.02.2000 12:00:00.0009% -> 32 2 0 0 untouched
 ascii room 100 offset at the limit: 30.12.1899 00:00:00.0000%30.11.1908 19:29:36.7106% -> 0 0 0 2 000000000000080000048c000000000000000000ffffffffffc8080000048c000000000000000000 untouched
@@ -373,10 +373,10 @@ write version 12 start 0 first 999999 bytes 20 room 112: 281474976710655 16 1 1 
 write version 11 start 0 first 1 bytes 20 room 300: 281474976710655 0 0 0 x123 2 x0AFF000000000000 -> 24 1 untouched
 write version 12 start 8639999999999 first 999997 bytes 60 room 249: 281474976710655 16 1 1 x1FFFFFFF 8 xFFFFFFFFFFFFFFFF;281474976710654 16 1 1 x1FFFFFFF 8 xFFFFFFFFFFFFFFFF;281474976710655 16 1 1 x1FFFFFFF 8 xFFFFFFFFFFFFFFFF -> 25 0 untouched
 write version 12 start 8639999999999 first 999997 bytes 60 room 250: 281474976710655 16 1 1 x1FFFFFFF 8 xFFFFFFFFFFFFFFFF;281474976710654 16 1 1 x1FFFFFFF 8 xFFFFFFFFFFFFFFFF;281474976710655 16 1 1 x1FFFFFFF 8 xFFFFFFFFFFFFFFFF -> 0 0 250
-export start 0 bytes 20 room 46: 281474976710655 1 0 0 x123 -> 0 0 44 1 0 30.11.1908 19:29:36.7106 CAN #1 | Rx 123 0\r\n untouched
-export start 8639999999999 bytes 20 room 46: 281474976710655 1 0 0 x123 -> 0 0 44 1 0 14.09.2182 19:29:36.7096 CAN #1 | Rx 123 0\r\n untouched
-export start 8639999999999 bytes 20 room 46: 281404800000999 1 0 0 x123 -> 0 0 44 1 0 13.09.2182 23:59:59.9999 CAN #1 | Rx 123 0\r\n untouched
-export start 8639999999999 bytes 20 room 46: 281404800001000 1 0 0 x123 -> 0 0 44 1 0 14.09.2182 00:00:00.0000 CAN #1 | Rx 123 0\r\n untouched
+export start 0 channel 1 bytes 20 room 46: 281474976710655 1 0 0 x123 -> 0 0 44 1 0 30.11.1908 19:29:36.7106 CAN #1 | Rx 123 0\r\n untouched
+export start 8639999999999 channel 1 bytes 20 room 46: 281474976710655 1 0 0 x123 -> 0 0 44 1 0 14.09.2182 19:29:36.7096 CAN #1 | Rx 123 0\r\n untouched
+export start 8639999999999 channel 1 bytes 20 room 46: 281404800000999 1 0 0 x123 -> 0 0 44 1 0 13.09.2182 23:59:59.9999 CAN #1 | Rx 123 0\r\n untouched
+export start 8639999999999 channel 1 bytes 20 room 46: 281404800001000 1 0 0 x123 -> 0 0 44 1 0 14.09.2182 00:00:00.0000 CAN #1 | Rx 123 0\r\n untouched
 stamp start 8639999999999 offset 281474976710655 -> 14 9 2182 103257 19 29 36 7096
 stamp start 8639999999999 offset 281474976710555 -> 14 9 2182 103257 19 29 36 7095
 stamp start 3160987200000 offset 140737488355328 -> 15 8 2004 38214 9 44 48 3553
@@ -394,7 +394,7 @@ begin version 12 number 999999 bytes 65: 999999) 281474976710.655 16 Tx 1FFFFFFF
 ascii room 100 part 3554 on both sides of 47 bits: 30.12.1899 00:00:00.0000%15.06.1904 21:44:48.3554% -> 0 0 0 2 000000000000080000048c000000000000000000800000000048080000048c000000000000000000 untouched
 convert records 72800 page 313040 last stamp: ;$FILEVERSION=1.2\r\n;$STARTTIME=99999.9999999942\r\n1) 281474976710.655 9 Tx 0000 0\r\n -> 44 14.09.2182 19:29:36.7096 CAN #9 | Tx 000 0\r\n untouched
 convert records 72800 page 313040 7, line 3, past the last offset: ;$FILEVERSION=1.2\r\n;$STARTTIME=99999.9999999942\r\n1) 281474976710.656 9 Tx 0000 0\r\n -> 21 refused 7 at line 3\r\n untouched
-again room 300 at the limit: %1) 281474976710.655 1 Rx 0123 2 0A FF\r\n2) 140737488355.328 2 Tx 18AB0001 0\r\n3) 100000000000.000 1 Rx 0124 3 RTR\r\n -> 0 0 162 ;$FILEVERSION=1.2\r\n;$STARTTIME=36585.5000000000\r\n1) 281474976710.655 1 Rx 0123 2 0A FF\r\n2) 140737488355.328 2 Tx 18AB0001 0\r\n3) 100000000000.000 1 Rx 0124 3 RTR\r\n untouched 0 0 12 3160987200000 3 2 1 ffffffffffff080000048c82bfc0000000000000
+again room 300 channel 1 at the limit: %1) 281474976710.655 1 Rx 0123 2 0A FF\r\n2) 140737488355.328 2 Tx 18AB0001 0\r\n3) 100000000000.000 1 Rx 0124 3 RTR\r\n -> 0 0 162 ;$FILEVERSION=1.2\r\n;$STARTTIME=36585.5000000000\r\n1) 281474976710.655 1 Rx 0123 2 0A FF\r\n2) 140737488355.328 2 Tx 18AB0001 0\r\n3) 100000000000.000 1 Rx 0124 3 RTR\r\n untouched 0 0 12 3160987200000 3 2 1 ffffffffffff080000048c82bfc0000000000000
 '''
 LONG = [r'read room 100 comment with %d x: %%;%s\r\n -> %s' % (x, 'x' * x, said) for x, said in ((249, '0 0 12'), (250, '3 3 0 0 0 0 0'))]
 LONG += ['explain version 12 number 1: 1) 0.000 1 Rx 0123 %d%s -> %s' % (n, ' ' * 232, said) for n, said in ((0, '30 0 0 0'), (9, '0 0 1 6'))]

@@ -1,7 +1,8 @@
-"""What the program prints for an input."""
+"""What the program prints for an input, bus 0 as channel 1 (paper 02's Order 6)."""
 import ascii_lines, traces
 
 RECORDS, PAGE = 72_800, 313_040
+CHANNEL = 1
 
 def refused(number, place): return 'refused %d at line %d\r\n' % (number, place)
 
@@ -10,7 +11,7 @@ def prints(text, room):
     if len(text) > 65_536: return refused(1, 0)
     (number, place, _, start, *_), found = traces.read(text, room)
     if number == 8: return None
-    return refused(number, place) if number else ''.join(ascii_lines.lines(start, found))
+    return refused(number, place) if number else ''.join(ascii_lines.lines(start, CHANNEL, found))
 
 def convert(text, room, page):
     """what is printed, or None where what is lent is too short"""

@@ -1,10 +1,11 @@
-"""Telemotive ASCII lines, read back, by paper 02's Orders 4 and 5 over paper 01's sentences on the export."""
+"""Telemotive ASCII lines, read back, by paper 02's Orders 4, 5 and 6 over paper 01's sentences on the export."""
 import re
 from datetime import date
+from ascii_lines import LAST_CHANNEL
 from offsets import LAST_OFFSET
 
 LAST_DAY = 99_999
-CHANNELS = {b'#%d' % b: b for b in range(1, 17)}
+CHANNELS = {b'#%d' % b: b for b in range(LAST_CHANNEL + 1)}
 DIRECTIONS = {b'Rx': 0, b'Tx': 1}
 
 def refused(number, place): return (number, place, 0, 0), []

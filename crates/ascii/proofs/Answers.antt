@@ -5,56 +5,68 @@ use mathlib.Core.Logic.{_≢_}
 use mathlib.Core.List.{List, _++_}
 use native.Mathlib.Omega.{arith}
 use lib.ListN.{length, drop}
+use Rattle.base.specs.Limits.{lastBus}
 use Rattle.clock.specs.Start.{startLimit}
 use Rattle.record.specs.declared.Record.{Record}
 use Rattle.records.specs.Records.{Whole, PacksAll, FirstMalformed}
 use Rattle.records.proofs.Records.{packs-all-one, malformed-one, none-malformed}
 use Rattle.ascii.specs.declared.Exported.{Exported}
 use Rattle.ascii.specs.declared.Exported.the-variants as exported
-use Rattle.ascii.specs.Promise.{exportNumbers, Numbered, is-refused, lineCount, leftCount, ExportStopped, no-records, late, malformed, Given, ExportPromise, refused, no-room, done}
+use Rattle.ascii.specs.Promise.{exportNumbers, Numbered, is-refused, lineCount, leftCount, ExportStopped, no-records, late, no-channel, malformed, Given, ExportPromise, refused, no-room, done}
 use Rattle.ascii.proofs.Exporting.{exports-one}
 
--- Refusals 20, 22 and 23 have one number at one place.
-pub stopped-one : {start a b p q : ℕ} {s : List ℕ} → ExportStopped start s a p → ExportStopped start s b q → (a ≡ b) × (p ≡ q)
+-- Refusals 20, 22, 35 and 23 have one number at one place.
+pub stopped-one : {start channel a b p q : ℕ} {s : List ℕ} → ExportStopped start channel s a p → ExportStopped start channel s b q → (a ≡ b) × (p ≡ q)
 stopped-one (no-records f) (no-records g) = (refl, refl)
 stopped-one (no-records f) (late w l) = absurd (f w)
-stopped-one (no-records f) (malformed w l g) = absurd (f w)
+stopped-one (no-records f) (no-channel w l c) = absurd (f w)
+stopped-one (no-records f) (malformed w l c g) = absurd (f w)
 stopped-one (late v k) (no-records g) = absurd (g v)
 stopped-one (late v k) (late w l) = (refl, refl)
-stopped-one (late v k) (malformed w l g) = absurd (omega arith)
-stopped-one (malformed v k f) (no-records g) = absurd (g v)
-stopped-one (malformed v k f) (late w l) = absurd (omega arith)
-stopped-one (malformed v k f) (malformed w l g) = (refl, malformed-one f g)
+stopped-one (late v k) (no-channel w l c) = absurd (omega arith)
+stopped-one (late v k) (malformed w l c g) = absurd (omega arith)
+stopped-one (no-channel v k b) (no-records g) = absurd (g v)
+stopped-one (no-channel v k b) (late w l) = absurd (omega arith)
+stopped-one (no-channel v k b) (no-channel w l c) = (refl, refl)
+stopped-one (no-channel v k b) (malformed w l c g) = absurd (omega arith)
+stopped-one (malformed v k b f) (no-records g) = absurd (g v)
+stopped-one (malformed v k b f) (late w l) = absurd (omega arith)
+stopped-one (malformed v k b f) (no-channel w l c) = absurd (omega arith)
+stopped-one (malformed v k b f) (malformed w l c g) = (refl, malformed-one f g)
 
-pub stopped-number : {start n p : ℕ} {s : List ℕ} → ExportStopped start s n p → 20 ≤ n
+pub stopped-number : {start channel n p : ℕ} {s : List ℕ} → ExportStopped start channel s n p → 20 ≤ n
 stopped-number (no-records f) = omega arith
 stopped-number (late w l) = omega arith
-stopped-number (malformed w l f) = omega arith
+stopped-number (no-channel w l c) = omega arith
+stopped-number (malformed w l c f) = omega arith
 
 -- 23 is that of a malformed record.
-pub stopped-23 : {start n p : ℕ} {s : List ℕ} → ExportStopped start s n p → n ≡ 23 → FirstMalformed s p
+pub stopped-23 : {start channel n p : ℕ} {s : List ℕ} → ExportStopped start channel s n p → n ≡ 23 → FirstMalformed s p
 stopped-23 (no-records f) e = absurd (omega arith)
 stopped-23 (late w l) e = absurd (omega arith)
-stopped-23 (malformed w l f) e = f
+stopped-23 (no-channel w l c) e = absurd (omega arith)
+stopped-23 (malformed w l c f) e = f
 
 -- What is whole, within the limits and made of records is none of them,
-pub never-stopped : {start n p : ℕ} {s : List ℕ} {rs : List Record} → Whole s → start ≤ startLimit → PacksAll rs s → ExportStopped start s n p → ⊥
-never-stopped w l r (no-records f) = f w
-never-stopped w l r (late v k) = omega arith
-never-stopped w l r (malformed v k f) = none-malformed r f
+pub never-stopped : {start channel n p : ℕ} {s : List ℕ} {rs : List Record} → Whole s → start ≤ startLimit → channel ≤ lastBus → PacksAll rs s
+    → ExportStopped start channel s n p → ⊥
+never-stopped w l c r (no-records f) = f w
+never-stopped w l c r (late v k) = omega arith
+never-stopped w l c r (no-channel v k b) = omega arith
+never-stopped w l c r (malformed v k b f) = none-malformed r f
 
 -- so what is given is none,
-not-stopped : {start n p : ℕ} {s text : List ℕ} {rs : List Record} → Given start s rs text → ExportStopped start s n p → ⊥
-not-stopped g = never-stopped (g .whole) (g .limit) (g .packs)
+not-stopped : {start channel n p : ℕ} {s text : List ℕ} {rs : List Record} → Given start channel s rs text → ExportStopped start channel s n p → ⊥
+not-stopped g = never-stopped (g .whole) (g .limit) (g .is-channel) (g .packs)
 
 -- and is the only one.
-given-one : {start : ℕ} {s t u : List ℕ} {rs qs : List Record} → Given start s rs t → Given start s qs u → (rs ≡ qs) × (t ≡ u)
+given-one : {start channel : ℕ} {s t u : List ℕ} {rs qs : List Record} → Given start channel s rs t → Given start channel s qs u → (rs ≡ qs) × (t ≡ u)
 given-one g h =
     let e = packs-all-one (g .packs) (h .packs) in
     (e, exports-one (rw e at (g .exports)) (h .exports))
 
 -- The promise leaves one answer and one output only.
-pub one-export : {start : ℕ} {s before a b x y : List ℕ} → ExportPromise start s before a x → ExportPromise start s before b y
+pub one-export : {start channel : ℕ} {s before a b x y : List ℕ} → ExportPromise start channel s before a x → ExportPromise start channel s before b y
     → (a ≡ b) × (x ≡ y)
 one-export (refused f e q) (refused g d r) =
     let z = stopped-one f g in
@@ -71,28 +83,28 @@ one-export {before = before} (done f k e q) (done g l d r) =
     (e ∙ cc (z .0, z .1) ∙ sym d, q ∙ ap (λ (t : List ℕ). t ++ drop (length t) before) (z .1) ∙ sym r)
 
 -- The answer itself is the only one: an export of nothing and a refusal are told apart by `Numbered`.
-pub same-exported : {start : ℕ} {s before x y : List ℕ} (a b : Exported) → Numbered a → Numbered b
-    → ExportPromise start s before (exportNumbers a) x → ExportPromise start s before (exportNumbers b) y → (a ≡ b) × (x ≡ y)
+pub same-exported : {start channel : ℕ} {s before x y : List ℕ} (a b : Exported) → Numbered a → Numbered b
+    → ExportPromise start channel s before (exportNumbers a) x → ExportPromise start channel s before (exportNumbers b) y → (a ≡ b) × (x ≡ y)
 same-exported (exported.Done n l k) (exported.Done m i j) f g p q = let z = one-export p q in (cc (z .0), z .1)
 same-exported (exported.Done n l k) (exported.Refused m o) f (is-refused h) p q = let z : 0 ≡ m = cc (one-export p q .0) in absurd (omega arith)
 same-exported (exported.Refused n o) (exported.Done m i j) (is-refused h) g p q = let z : n ≡ 0 = cc (one-export p q .0) in absurd (omega arith)
 same-exported (exported.Refused n o) (exported.Refused m r) f g p q = let z = one-export p q in (cc (z .0), z .1)
 
 -- What can be exported is, where there is room.
-pub exports : {start : ℕ} {s text before a x : List ℕ} {rs : List Record} → Given start s rs text → length text ≤ length before
-    → ExportPromise start s before a x
+pub exports : {start channel : ℕ} {s text before a x : List ℕ} {rs : List Record} → Given start channel s rs text → length text ≤ length before
+    → ExportPromise start channel s before a x
     → (a ≡ exportNumbers (exported.Done (length text) (lineCount rs) (leftCount rs))) × (x ≡ text ++ drop (length text) before)
 exports g l p = one-export p (done g l refl refl)
 
 -- With a refusal the output is what it was.
-pub untouched : {start number p : ℕ} {s before x : List ℕ} → number ≢ 0 → ExportPromise start s before (exportNumbers (exported.Refused number p)) x
+pub untouched : {start channel number p : ℕ} {s before x : List ℕ} → number ≢ 0 → ExportPromise start channel s before (exportNumbers (exported.Refused number p)) x
     → x ≡ before
 untouched f (refused g e q) = q
 untouched f (no-room g l e q) = q
 untouched {number = number} f (done g l e q) = let z : number ≡ 0 = cc in absurd (f z)
 
 -- Each record is counted once: invented counts break the promise.
-pub counted : {start bytes lines others : ℕ} {s before x : List ℕ} → ExportPromise start s before (exportNumbers (exported.Done bytes lines others)) x
+pub counted : {start channel bytes lines others : ℕ} {s before x : List ℕ} → ExportPromise start channel s before (exportNumbers (exported.Done bytes lines others)) x
     → (rs : List Record) × PacksAll rs s × (lines ≡ lineCount rs) × (others ≡ leftCount rs)
 counted (refused {n = n} g e q) = let z : 0 ≡ n = cc in absurd (omega (arith, stopped-number g))
 counted (no-room g l e q) = let z : _≡_ {A = ℕ} 0 25 = cc in absurd (omega arith)

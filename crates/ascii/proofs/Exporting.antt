@@ -6,6 +6,7 @@ use native.Mathlib.Decide.{decLt, ℕ-discrete}
 use native.Mathlib.Omega.{arith}
 use borrow.Author.Tests.{lt-ltb, le-ltb}
 use lib.ListN.{length, length-append}
+use Rattle.base.specs.Limits.{lastBus}
 use Rattle.clock.specs.declared.DateTime.{DateTime}
 use Rattle.clock.specs.Stamp.{Stamp}
 use Rattle.clock.proofs.Stamps.{one-stamp}
@@ -17,36 +18,36 @@ use Rattle.ascii.proofs.Channels.{channel-most}
 use Rattle.ascii.specs.Promise.{channelOf, lineOf, Exports, none, line, left, isFrame, lineCount, leftCount}
 
 -- The records export to one text.
-pub exports-one : {start : ℕ} {rs : List Record} {t u : List ℕ} → Exports start rs t → Exports start rs u → t ≡ u
+pub exports-one : {start channel : ℕ} {rs : List Record} {t u : List ℕ} → Exports start channel rs t → Exports start channel rs u → t ≡ u
 exports-one none none = refl
-exports-one (line {r = r} k s e) (line j z f) = ap₂ (λ (x : DateTime) (y : List ℕ). lineOf x r ++ y) (one-stamp s z) (exports-one e f)
+exports-one {channel = channel} (line {r = r} k s e) (line j z f) = ap₂ (λ (x : DateTime) (y : List ℕ). lineOf channel x r ++ y) (one-stamp s z) (exports-one e f)
 exports-one (line k s e) (left j f) = absurd (omega arith)
 exports-one (left k e) (line j z f) = absurd (omega arith)
 exports-one (left k e) (left j f) = exports-one e f
 
 -- Lines behind lines.
-pub exports-append : {start : ℕ} {rs qs : List Record} {t u : List ℕ} → Exports start rs t → Exports start qs u
-    → Exports start (rs ++ qs) (t ++ u)
+pub exports-append : {start channel : ℕ} {rs qs : List Record} {t u : List ℕ} → Exports start channel rs t → Exports start channel qs u
+    → Exports start channel (rs ++ qs) (t ++ u)
 exports-append none g = g
-exports-append {u = u} (line {r = r} {s = s} {text = t} k z e) g = rw (append-assoc (lineOf s r) t u) (line k z (exports-append e g))
+exports-append {channel = channel} {u = u} (line {r = r} {s = s} {text = t} k z e) g = rw (append-assoc (lineOf channel s r) t u) (line k z (exports-append e g))
 exports-append (left k e) g = left k (exports-append e g)
 
 -- The line of one record, or nothing.
-pub exports-line : {start : ℕ} {r : Record} {s : DateTime} → r .kind ≤ 1 → Stamp start (r .offset) s → Exports start (r ∷ []) (lineOf s r)
-exports-line {start} {r} {s} k z =
-    let e : Exports start (r ∷ []) (lineOf s r ++ []) = line k z none in
+pub exports-line : {start channel : ℕ} {r : Record} {s : DateTime} → r .kind ≤ 1 → Stamp start (r .offset) s → Exports start channel (r ∷ []) (lineOf channel s r)
+exports-line {start} {channel} {r} {s} k z =
+    let e : Exports start channel (r ∷ []) (lineOf channel s r ++ []) = line k z none in
     rw append-nil at e
 
-pub exports-left : {start : ℕ} {r : Record} → 1 < r .kind → Exports start (r ∷ []) []
+pub exports-left : {start channel : ℕ} {r : Record} → 1 < r .kind → Exports start channel (r ∷ []) []
 exports-left k = left k none
 
 -- The first record's line, and the rest.
-pub first-line : {start : ℕ} {r : Record} {rs : List Record} {t : List ℕ} {s : DateTime} → r .kind ≤ 1 → Stamp start (r .offset) s
-    → Exports start (r ∷ rs) t → (u : List ℕ) × (t ≡ lineOf s r ++ u) × Exports start rs u
-first-line {r = r} k z (line {text = u} j y e) = (u, ap (λ (x : DateTime). lineOf x r ++ u) (one-stamp y z), e)
+pub first-line : {start channel : ℕ} {r : Record} {rs : List Record} {t : List ℕ} {s : DateTime} → r .kind ≤ 1 → Stamp start (r .offset) s
+    → Exports start channel (r ∷ rs) t → (u : List ℕ) × (t ≡ lineOf channel s r ++ u) × Exports start channel rs u
+first-line {channel = channel} {r = r} k z (line {text = u} j y e) = (u, ap (λ (x : DateTime). lineOf channel x r ++ u) (one-stamp y z), e)
 first-line k z (left j e) = absurd (omega arith)
 
-pub first-left : {start : ℕ} {r : Record} {rs : List Record} {t : List ℕ} → 1 < r .kind → Exports start (r ∷ rs) t → Exports start rs t
+pub first-left : {start channel : ℕ} {r : Record} {rs : List Record} {t : List ℕ} → 1 < r .kind → Exports start channel (r ∷ rs) t → Exports start channel rs t
 first-left k (line j y e) = absurd (omega arith)
 first-left k (left j e) = e
 
@@ -88,18 +89,19 @@ counts-sum [] = refl
 counts-sum (r ∷ rs) = omega (arith, counts-sum rs, frame-most r)
 
 -- A line has at most 86 bytes,
-line-most : (s : DateTime) (r : Record) → WellFormed r → length (lineOf s r) ≤ 86
-line-most s r w =
-    let n = channelOf (r .bus) in
-    let c = short-channel n (channel-most (r .bus) (w .bus)) in
+line-most : {channel : ℕ} → channel ≤ lastBus → (s : DateTime) (r : Record) → WellFormed r → length (lineOf channel s r) ≤ 86
+line-most {channel} h s r w =
+    let n = channelOf channel (r .bus) in
+    let c = short-channel n (channel-most channel (r .bus) h (w .bus)) in
     elim (ℕ-discrete (r .extended) 1) [
       | yes e ↦ omega (arith, line-length s n r, extended-length n r e, w .len)
       | no f ↦ let z : r .extended ≡ 0 = omega (arith, w .extended, f) in omega (arith, line-length s n r, standard-length n r z, w .len)
     ]
 
 -- and so has each record's.
-pub export-most : {start : ℕ} {rs : List Record} {text : List ℕ} → Each WellFormed rs → Exports start rs text → length text ≤ 86 * length rs
-export-most wellNone none = omega arith
-export-most (wellMore {r = r} w ws) (line {s = s} {text = t} k z e) =
-    omega (arith, length-append (lineOf s r) t, line-most s r w, export-most ws e)
-export-most (wellMore w ws) (left k e) = omega (arith, export-most ws e)
+pub export-most : {start channel : ℕ} {rs : List Record} {text : List ℕ} → channel ≤ lastBus → Each WellFormed rs → Exports start channel rs text
+    → length text ≤ 86 * length rs
+export-most h wellNone none = omega arith
+export-most {channel = channel} h (wellMore {r = r} w ws) (line {s = s} {text = t} k z e) =
+    omega (arith, length-append (lineOf channel s r) t, line-most h s r w, export-most h ws e)
+export-most h (wellMore w ws) (left k e) = omega (arith, export-most h ws e)

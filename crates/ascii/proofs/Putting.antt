@@ -15,17 +15,17 @@ use Rattle.ascii.specs.Promise.{lineOf, Exports, none}
 use Rattle.ascii.specs.inner.Passes.{LinePut, line, left, LinesFit, LinesPut}
 use Rattle.ascii.proofs.Exporting.{exports-one, exports-append, exports-line, exports-left, first-line, first-left}
 
-pub record Putting (start : ℕ) (s old out : List ℕ) (at p : ℕ) : Type 0 where
+pub record Putting (start channel : ℕ) (s old out : List ℕ) (at p : ℕ) : Type 0 where
   pub records : Ahead s at
   pub done : List ℕ
-  pub so-far : Exports start (records .before) done
+  pub so-far : Exports start channel (records .before) done
   pub wrote : Wrote old out 0 p done
   pub text : List ℕ
-  pub to-come : Exports start (records .after) text
+  pub to-come : Exports start channel (records .after) text
   pub room : p + length text ≤ length old
   pub same : length out ≡ length old
 
-pub putting : {start : ℕ} {s old : List ℕ} → LinesFit start s old → Putting start s old old 0 0
+pub putting : {start channel : ℕ} {s old : List ℕ} → LinesFit start channel s old → Putting start channel s old old 0 0
 putting f = record {
   records = ahead (f .packs);
   done = [];
@@ -37,28 +37,28 @@ putting f = record {
   same = refl;
 }
 
-module _ {start : ℕ} {s old out : List ℕ} {at p : ℕ} (f : Putting start s old out at p) {r : Record} {z : DateTime} (h : at < length s) (b : Packs r (take 20 (drop at s))) (y : Stamp start (r .offset) z) where
-  next : Exports start (r ∷ later (f .records) h b) (f .text)
+module _ {start channel : ℕ} {s old out : List ℕ} {at p : ℕ} (f : Putting start channel s old out at p) {r : Record} {z : DateTime} (h : at < length s) (b : Packs r (take 20 (drop at s))) (y : Stamp start (r .offset) z) where
+  next : Exports start channel (r ∷ later (f .records) h b) (f .text)
   next = rw (after-next (f .records) h b) at (f .to-come)
 
   -- There is room for the next line, if there is one.
-  pub next-room : r .kind ≤ 1 → p + length (lineOf z r) ≤ length out
+  pub next-room : r .kind ≤ 1 → p + length (lineOf channel z r) ≤ length out
   next-room k =
       let x = first-line k y next in
-      omega (arith, f .room, f .same, ap length (x .1), length-append (lineOf z r) (x .0))
+      omega (arith, f .room, f .same, ap length (x .1), length-append (lineOf channel z r) (x .0))
 
   -- It is put.
-  pub put-more : {new : List ℕ} {e : ℕ} → LinePut out new p e z r → length new ≡ length old → Putting start s old new (at + 20) e
+  pub put-more : {new : List ℕ} {e : ℕ} → LinePut channel out new p e z r → length new ≡ length old → Putting start channel s old new (at + 20) e
   put-more (line k w) l =
       let x = first-line k y next in
       record {
         records = ahead-more (f .records) h b;
-        done = f .done ++ lineOf z r;
+        done = f .done ++ lineOf channel z r;
         so-far = exports-append (f .so-far) (exports-line k y);
         wrote = then (f .wrote) w;
         text = x .0;
         to-come = x .2;
-        room = omega (arith, f .room, w .next, ap length (x .1), length-append (lineOf z r) (x .0));
+        room = omega (arith, f .room, w .next, ap length (x .1), length-append (lineOf channel z r) (x .0));
         same = l;
       }
   put-more {new} {e} (left k d n) l = record {
@@ -72,7 +72,7 @@ module _ {start : ℕ} {s old out : List ℕ} {at p : ℕ} (f : Putting start s 
     same = l;
   }
 
-pub lines-put : {start : ℕ} {s old out : List ℕ} {at p : ℕ} → Putting start s old out at p → length s ≤ at → LinesPut start s old out
+pub lines-put : {start channel : ℕ} {s old out : List ℕ} {at p : ℕ} → Putting start channel s old out at p → length s ≤ at → LinesPut start channel s old out
 lines-put {p = p} f h = record {
   lines = λ rs text g e.
       let q = exports-one (rw (all-behind (f .records) h g) at e) (f .so-far) in

@@ -2,6 +2,7 @@
 use ascii_line::line_length;
 use ascii_line::put_line;
 use ascii_line::put_second;
+use base::LAST_BUS;
 use clock::START_LIMIT;
 use clock::stamp_of;
 use digits::Letters;
@@ -14,7 +15,7 @@ use records::whole;
 ghost use mathlib.Core.Path.{_≡_};
 ghost use Prim.Native.Nat.{_+_, _/_, _≤_};
 ghost use lib.ListN.{length};
-ghost use Rattle.base.specs.Limits.{offsetLimit};
+ghost use Rattle.base.specs.Limits.{offsetLimit, lastBus};
 ghost use Rattle.digits.specs.inner.Pairs.{PairsOf};
 ghost use Rattle.clock.specs.Start.{startLimit};
 ghost use Rattle.clock.specs.declared.DateTime.{DateTime as AnyStamp};
@@ -60,31 +61,31 @@ fn frame(r: Record) -> u64
     1
 }
 
-// Bus 0 is written as channel 1.
-fn channel(bus: u64) -> u64
-    ensures { λ n. ⌜ n ≡ channelOf bus ⌝ }
+// Bus 0 is written as the channel that is given for it, every other bus as the channel of its number.
+fn channel_of(channel: u64, bus: u64) -> u64
+    ensures { λ n. ⌜ n ≡ channelOf channel bus ⌝ }
 {
     if bus == 0 {
-        return 1;
+        return channel;
     }
     bus
 }
 
 // How many bytes the line of a record is, or 0 if it is left out.
-fn line_bytes(r: Record) -> usize
-    requires { ⌜ WellFormed r ⌝ }
-    ensures { λ n. ⌜ LineBytes r n × (n ≤ 86) ⌝ }
+fn line_bytes(channel: u64, r: Record) -> usize
+    requires { ⌜ WellFormed r × (channel ≤ lastBus) ⌝ }
+    ensures { λ n. ⌜ LineBytes channel r n × (n ≤ 86) ⌝ }
 {
     if frame(r) == 0 {
         return 0;
     }
-    line_length(channel(r.bus), r)
+    line_length(channel_of(channel, r.bus), r)
 }
 
 // The first pass: every record is judged, and the lines are measured and counted.
-fn measure_lines(records: &[u8]) -> Measured
-    requires { ⌜ Whole (now records) ⌝ }
-    ensures { λ m. ⌜ MeasuresLines (now (records .entry)) m ⌝ }
+fn measure_lines(channel: u64, records: &[u8]) -> Measured
+    requires { ⌜ Whole (now records) × (channel ≤ lastBus) ⌝ }
+    ensures { λ m. ⌜ MeasuresLines channel (now (records .entry)) m ⌝ }
 {
     let mut at: usize = 0;
     let mut k: u64 = 0;
@@ -96,7 +97,7 @@ fn measure_lines(records: &[u8]) -> Measured
         let Entry::Is(r) = e else {
             return Measured::Bad { place: k };
         };
-        bytes += line_bytes(r);
+        bytes += line_bytes(channel, r);
         lines += frame(r);
         at += 20;
     }
@@ -140,24 +141,25 @@ fn put_export(
     at: usize,
     second: &[u8; 20],
     part: u64,
+    channel: u64,
     r: Record,
     pairs: &[u8; 512],
 ) -> usize
-    requires { ⌜ WellFormed r × ((s : AnyStamp) × (r .kind ≤ 1 → at + length (lineOf s r) ≤ length (now out))) × PairsOf Small (now pairs) ⌝ }
-    ensures { λ e. ⌜ ((s : AnyStamp) → StampParts (now (second .entry)) part s → LinePut (now (out .entry)) (now (out .exit)) at e s r) ⌝ }
+    requires { ⌜ WellFormed r × ((s : AnyStamp) × (r .kind ≤ 1 → at + length (lineOf channel s r) ≤ length (now out))) × PairsOf Small (now pairs) ⌝ }
+    ensures { λ e. ⌜ ((s : AnyStamp) → StampParts (now (second .entry)) part s → LinePut channel (now (out .entry)) (now (out .exit)) at e s r) ⌝ }
 {
     let given = frame(r);
     if given == 0 {
         return at;
     }
-    put_line(out, at, second, part, channel(r.bus), r, pairs)
+    put_line(out, at, second, part, channel_of(channel, r.bus), r, pairs)
 }
 
 // The second pass: the lines are put into the output, which has room for them. No record is judged any more. The bytes of a
 // stamp up to its point are kept in `head` from line to line: `last` is their second.
-fn put_lines(start: u64, records: &[u8], out: &mut [u8])
-    requires { ⌜ LinesFit start (now records) (now out) × (start ≤ startLimit) ⌝ }
-    ensures { λ _. ⌜ LinesPut start (now (records .entry)) (now (out .entry)) (now (out .exit)) ⌝ }
+fn put_lines(start: u64, channel: u64, records: &[u8], out: &mut [u8])
+    requires { ⌜ LinesFit start channel (now records) (now out) × (start ≤ startLimit) ⌝ }
+    ensures { λ _. ⌜ LinesPut start channel (now (records .entry)) (now (out .entry)) (now (out .exit)) ⌝ }
 {
     let mut at = 0;
     let mut p = 0;
@@ -171,18 +173,18 @@ fn put_lines(start: u64, records: &[u8], out: &mut [u8])
         let second = ticks / 10000;
         renew_second(&mut head, last, second, start, r.offset);
         last = second;
-        p = put_export(out, p, &head, ticks % 10000, r, &pairs);
+        p = put_export(out, p, &head, ticks % 10000, channel, r, &pairs);
         at += 20;
     }
 }
 
 // Both passes, where all but the records and the room is judged.
-fn put_all(start: u64, records: &[u8], out: &mut [u8]) -> Exported
-    requires { ⌜ Whole (now records) × (start ≤ startLimit) ⌝ }
-    ensures { λ e. ⌜ ExportPromise start (now (records .entry)) (now (out .entry)) (exportNumbers e) (now (out .exit)) ⌝ }
+fn put_all(start: u64, channel: u64, records: &[u8], out: &mut [u8]) -> Exported
+    requires { ⌜ Whole (now records) × (start ≤ startLimit) × (channel ≤ lastBus) ⌝ }
+    ensures { λ e. ⌜ ExportPromise start channel (now (records .entry)) (now (out .entry)) (exportNumbers e) (now (out .exit)) ⌝ }
     ensures { λ e. ⌜ Numbered e ⌝ }
 {
-    let m = measure_lines(records);
+    let m = measure_lines(channel, records);
     match m {
         Measured::Good {
             bytes,
@@ -195,7 +197,7 @@ fn put_all(start: u64, records: &[u8], out: &mut [u8]) -> Exported
                     place: 0,
                 };
             }
-            put_lines(start, records, out);
+            put_lines(start, channel, records, out);
             Exported::Done {
                 bytes,
                 lines,
@@ -206,9 +208,9 @@ fn put_all(start: u64, records: &[u8], out: &mut [u8]) -> Exported
     }
 }
 
-// Exports packed records as lines of Telemotive ASCII.
-pub fn export(start: u64, records: &[u8], out: &mut [u8]) -> Exported
-    ensures { λ e. ⌜ ExportPromise start (now (records .entry)) (now (out .entry)) (exportNumbers e) (now (out .exit)) ⌝ }
+// Exports packed records as lines of Telemotive ASCII, bus 0 as this channel.
+pub fn export(start: u64, channel: u64, records: &[u8], out: &mut [u8]) -> Exported
+    ensures { λ e. ⌜ ExportPromise start channel (now (records .entry)) (now (out .entry)) (exportNumbers e) (now (out .exit)) ⌝ }
     ensures { λ e. ⌜ Numbered e ⌝ }
 {
     if !whole(records) {
@@ -223,5 +225,11 @@ pub fn export(start: u64, records: &[u8], out: &mut [u8]) -> Exported
             place: 0,
         };
     }
-    put_all(start, records, out)
+    if LAST_BUS < channel {
+        return Exported::Refused {
+            number: 35,
+            place: 0,
+        };
+    }
+    put_all(start, channel, records, out)
 }

@@ -41,7 +41,7 @@ behind r id bytes = directionText (r .kind) ∷ id ∷ (figureOf (r .len) ∷ []
 pub from-parts : {r : Record} {fs : List (List ℕ)} → FrameParts r fs → FromType r fs
 from-parts {r} p =
     let f = p .fits in
-    rw (p .are) (from-type (record { bytes = refl; few = f .extended }) (from-channel (record { bytes = refl; low = f .first-channel; high = f .last-channel }) (from-bar refl (go (ℕ-discrete (r .extended) 1)))))
+    rw (p .are) (from-type (record { bytes = refl; few = f .extended }) (from-channel (record { bytes = refl; high = f .channel }) (from-bar refl (go (ℕ-discrete (r .extended) 1)))))
   where
     rest : FromDirection r (behind r (p .id) (p .bytes))
     rest =
@@ -60,7 +60,7 @@ to-parts (from-type t (from-channel c (from-bar b (no-word e (from-direction d (
   are = rw (t .bytes, c .bytes, b, no-texts e, d .bytes, l .spelled);
   id-digits = i .digits;
   byte-digits = bs;
-  fits = record { first-channel = c .low; last-channel = c .high; kind = d .few; extended = t .few; standard = i .standard; id = i .long; len = l .small };
+  fits = record { channel = c .high; kind = d .few; extended = t .few; standard = i .standard; id = i .long; len = l .small };
 }
 to-parts (from-type t (from-channel c (from-bar b (word e x (from-direction d (from-id {f = i′} i (from-length {fs = fs} l bs))))))) = record {
   id = i′;
@@ -68,7 +68,7 @@ to-parts (from-type t (from-channel c (from-bar b (word e x (from-direction d (f
   are = rw (t .bytes, c .bytes, b, extended-texts e, x, d .bytes, l .spelled);
   id-digits = i .digits;
   byte-digits = bs;
-  fits = record { first-channel = c .low; last-channel = c .high; kind = d .few; extended = t .few; standard = i .standard; id = i .long; len = l .small };
+  fits = record { channel = c .high; kind = d .few; extended = t .few; standard = i .standard; id = i .long; len = l .small };
 }
 
 -- One record.

@@ -21,10 +21,9 @@ use Rattle.record.specs.declared.Record.{Record}
 use Rattle.record.specs.Record.{WellFormed}
 use Rattle.fields.specs.Parted.{NoBlank, Parted, none, blank-first}
 use Rattle.fields.specs.Runs.{All, empty, more, Stops, over, halt}
-use Rattle.fields.proofs.Columns.{Plain, visible, text-plain, type-plain, type-some, bus-plain, hex-plain, length-plain, length-some, byte-plain, byte-some}
+use Rattle.fields.proofs.Columns.{Plain, visible, decimals, text-plain, type-plain, type-some, hex-plain, length-plain, length-some, byte-plain, byte-some}
 use Rattle.fields.proofs.Parts.{first}
 use Rattle.fields.proofs.Runs.{all-map, all-append}
-use Rattle.fields.proofs.Scans.{digits-all}
 use Rattle.lines.specs.Lines.{Inside}
 use Rattle.row.specs.Row.{Nothing, nothing, ByteFields, done, byte}
 use Rattle.row.proofs.Fields.{Each, no-more, then, each-map, parted-all}
@@ -81,7 +80,7 @@ apart {f} {fs} p e = rw joined-more (record {
 -- Each part of the line is one.
 
 padded-plain : (w n : ℕ) → n < 10 ^ w → All Plain (paddedText w n)
-padded-plain w n h = all-map (λ x (d, p). visible (omega (arith, p .byte))) (digits-all (padded-spells w n h .digits))
+padded-plain w n h = decimals (padded-spells w n h .digits)
 
 separator : {b : ℕ} {s : List ℕ} → 33 ≤ b → All Plain s → All Plain (b ∷ s)
 separator h a = more (visible h) a
@@ -116,9 +115,7 @@ word-part : {f t : List ℕ} → f ≡ t → 0 < length t → T (every (λ k x. 
 word-part {t = t} e h b = rw e (record { some = h; plain = text-plain t b })
 
 channel-part : {v : ℕ} {f : List ℕ} → ChannelPart v f → Part f
-channel-part {v} p =
-    let q = bus-plain (record { spelled = decimal-spells v; low = p .low; high = p .high }) in
-    rw (p .bytes) (record { some = omega arith; plain = separator (omega arith) q })
+channel-part {v} p = rw (p .bytes) (record { some = omega arith; plain = separator (omega arith) (decimals (decimal-spells v .digits)) })
 
 direction-part : {v : ℕ} {f : List ℕ} → DirectionPart v f → Part f
 direction-part {v} p = let t = is-type v p in record { some = type-some t; plain = type-plain t }

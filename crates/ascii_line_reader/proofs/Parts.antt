@@ -7,7 +7,7 @@ use mathlib.Core.List.{List, [], _∷_, _++_}
 use native.Mathlib.Nat.{add-zero}
 use native.Mathlib.Numerals.{add-one}
 use native.Mathlib.Omega.{arith}
-use native.Mathlib.Decide.{ℕ-discrete}
+use native.Mathlib.Decide.{ℕ-discrete, decLt}
 use lib.Dec.{T, leb}
 use lib.ListN.{length, getD, take, drop, take-append-drop}
 use lib.Seq.{take-suc, take-all, length-take-le, drop-cons}
@@ -15,7 +15,7 @@ use Rattle.base.specs.Text.{text}
 use Rattle.base.specs.inner.Decides.{Decides}
 use Rattle.base.proofs.Tables.{every}
 use Rattle.digits.specs.House.{decimalText}
-use Rattle.digits.proofs.House.{decimal-spells}
+use Rattle.digits.proofs.House.{one, decimal-spells}
 use Rattle.digits.proofs.Theorems.{one-hex, decimal-house}
 use Rattle.fields.specs.declared.Scan.{Scan}
 use Rattle.fields.specs.Runs.{All, empty, more}
@@ -25,9 +25,9 @@ use Rattle.fields.specs.inner.Window.{not as none-taken}
 use Rattle.fields.proofs.Columns.{plain-solid, text-plain, type-one}
 use Rattle.fields.proofs.Runs.{all-map, all-at}
 use Rattle.fields.proofs.Window.{End, field-one}
-use Rattle.fields.proofs.FixedFields.{StandsAt, first, then, here, ended, unended, not-then, then-is}
+use Rattle.fields.proofs.FixedFields.{StandsAt, first, first-is, then, here, ended, unended, not-first, not-then, then-is}
 use Rattle.ascii_line.specs.Line.{messageTypeText, directionText}
-use Rattle.ascii_line_reader.specs.inner.Columns.{TypePart, ChannelPart, DirectionPart, IdPart}
+use Rattle.ascii_line_reader.specs.inner.Columns.{TypePart, ChannelNumber, ChannelPart, DirectionPart, IdPart}
 use Rattle.ascii_line_reader.proofs.Columns.{no-type}
 
 -- A spelled-out word has no blank and no CR: antt computes that each of its bytes stands behind the blank.
@@ -92,7 +92,32 @@ other-type (none-taken e n) z (taken b g p) = taken b g (record { bytes = p; few
 other-type (none-taken e n) z (none-taken g m) = none-taken g (λ f rest a v p.
     no-type v (p .few) (λ y. n f rest a 0 (p .bytes ∙ ap messageTypeText y)) (λ y. m f rest a 0 (p .bytes ∙ ap messageTypeText y)))
 
--- The channel: `#`, and a bus behind it.
+-- The number of a channel: a lone 0, or that of a bus.
+module _ {w : List ℕ} {at : ℕ} (b : Starts w at) where
+  pub bus-takes : {s : Scan} → getD w at 0 ≢ 48 → Takes BusField w at s → Takes ChannelNumber w at s
+  bus-takes z (taken a e p) = taken a e (record { spelled = p .spelled; high = p .high })
+  bus-takes z (none-taken e n) = none-taken e (λ f rest a v p. go a p (ℕ-discrete v 0))
+    where
+      go : {f rest : List ℕ} {v : ℕ} → FieldAt f rest (drop at w) → ChannelNumber v f → Dec (v ≡ 0) → ⊥
+      go a p (yes o) = not-first b z a (decimal-house (p .spelled) ∙ ap decimalText o ∙ one 0 (omega arith))
+      go {v = v} a p (no o) = n _ _ a v (record { spelled = p .spelled; low = omega arith; high = p .high })
+
+  module _ (e : getD w at 0 ≡ 48) where
+    pub zero-stands : StandsAt (48 ∷ []) w at
+    zero-stands = first b e
+
+    pub zero-taken : (r : Bool) → Decides (End (getD w (at + 1) 0)) r → not r ≡ false → Takes ChannelNumber w at (record { end = at + 1; value = 0 })
+    zero-taken r d n = taken (ended zero-stands (omega arith) r d n) refl (record { spelled = rw (one 0 (omega arith)) at (decimal-spells 0); high = omega arith })
+
+    -- another byte behind it
+    pub zero-first : {f rest : List ℕ} {v : ℕ} (r : Bool) → Decides (End (getD w (at + 1) 0)) r → not r ≡ true → FieldAt f rest (drop at w) → ChannelNumber v f → ⊥
+    zero-first {f} r d n a p = go (decLt 1 (length f))
+      where
+        go : Dec (1 < length f) → ⊥
+        go (yes l) = p .spelled .lead l (sym (first-is b a) ∙ e)
+        go (no l) = let s = a .some in unended zero-stands r d n a (omega arith)
+
+-- The channel: `#`, and its number behind it.
 module _ {w : List ℕ} {at : ℕ} (b : Starts w at) (e : getD w at 0 ≡ 35) where
   pub sharp : StandsAt (35 ∷ []) w at
   sharp = first b e
@@ -105,15 +130,15 @@ module _ {w : List ℕ} {at : ℕ} (b : Starts w at) (e : getD w at 0 ≡ 35) wh
       let q = then-is sharp a l in
       ⊎-elim (λ z. s .blank (sym q ∙ z)) (λ z. s .end (sym q ∙ z)) h
 
-  pub channel-takes : {s : Scan} → Takes BusField w (at + 1) s → Takes ChannelPart w at s
+  pub channel-takes : {s : Scan} → Takes ChannelNumber w (at + 1) s → Takes ChannelPart w at s
   channel-takes {s} (taken {f = g} a z p) =
       taken {f = 35 ∷ g} (record { bytes = sharp .bytes ∙ ap (λ (l : List ℕ). 35 ∷ l) (a .bytes); some = omega arith; solid = more (go (sharp .solid)) (a .solid); stops = a .stops })
-      (omega arith) (record { bytes = ap (λ (l : List ℕ). 35 ∷ l) (decimal-house (p .spelled)); low = p .low; high = p .high })
+      (omega arith) (record { bytes = ap (λ (l : List ℕ). 35 ∷ l) (decimal-house (p .spelled)); high = p .high })
     where
       go : All Solid (35 ∷ []) → Solid 35
       go (more x y) = x
   channel-takes {s} (none-taken z n) = none-taken z (λ f rest a v p.
-      n (decimalText v) rest (behind v a (p .bytes)) v (record { spelled = decimal-spells v; low = p .low; high = p .high }))
+      n (decimalText v) rest (behind v a (p .bytes)) v (record { spelled = decimal-spells v; high = p .high }))
     where
       behind : {f rest : List ℕ} (v : ℕ) → FieldAt f rest (drop at w) → f ≡ 35 ∷ decimalText v → FieldAt (decimalText v) rest (drop (at + 1) w)
       behind {f} {rest} v a q = record {

@@ -36,7 +36,7 @@ line-formed {r = r} a h =
     let f = a .frame in
     let k = f .kind in
     let x = bytes-sum 7 (a .spelled .byte-digits) refl (f .len) in
-    frame-formed r (omega arith) h (f .last-channel) (f .extended) (f .standard) (omega (arith, f .id)) (f .len) (x .0) (x .1)
+    frame-formed r (omega arith) h (f .channel) (f .extended) (f .standard) (omega (arith, f .id)) (f .len) (x .0) (x .1)
     (λ e. absurd (⊎-elim (λ q. omega arith) (λ q. omega arith) e))
 
 -- The offset is no part of it.
@@ -50,8 +50,7 @@ line-moved o a =
       spelled = record { id = s .id; bytes = s .bytes; are = s .are; id-digits = s .id-digits; byte-digits = s .byte-digits };
       stamp = a .stamp;
       frame = record {
-        first-channel = f .first-channel;
-        last-channel = f .last-channel;
+        channel = f .channel;
         kind = f .kind;
         extended = f .extended;
         standard = f .standard;

@@ -24,8 +24,8 @@ pub record Apart (parts : List (List ℕ)) (line : List ℕ) : Type 0 where
   pub first : (s : List ℕ) → line ≡ blank ∷ s → ⊥
   pub last : Tight line
 
--- The parts of the line of a stamp and a record: date and time, and what the export writes behind them on the channel of its bus, the ID and the
--- data in hexadecimal digits of either letter case. The offset is no part of the line.
+-- The parts of the line of a stamp and a record: date and time, and what the export writes behind them on the channel with the number of its
+-- bus, the ID and the data in hexadecimal digits of either letter case. The offset is no part of the line.
 pub record LineParts (s : DateTime) (r : Record) (parts : List (List ℕ)) : Type 0 where
   pub id : List ℕ
   pub bytes : List (List ℕ)
@@ -55,10 +55,9 @@ pub record StampFits (s : DateTime) : Type 0 where
   pub exists : Stamp 0 (instant s) s
   pub last : s .time .days ≤ lastDay
 
--- Channel 1 to 16, received or sent, a standard ID up to 7FF or an extended one up to 1FFFFFFF, length 0 to 8.
+-- Channel 0 to 16, received or sent, a standard ID up to 7FF or an extended one up to 1FFFFFFF, length 0 to 8.
 pub record FrameFits (r : Record) : Type 0 where
-  pub first-channel : 1 ≤ r .bus
-  pub last-channel : r .bus ≤ lastBus
+  pub channel : r .bus ≤ lastBus
   pub kind : r .kind ≤ 1
   pub extended : r .extended ≤ 1
   pub standard : r .extended ≡ 0 → r .id ≤ 0x7FF

@@ -19,7 +19,7 @@ ghost use lib.ListN.{length, drop};
 ghost use Rattle.digits.specs.inner.HexTable.{HexTable};
 ghost use Rattle.fields.specs.Runs.{All};
 ghost use Rattle.fields.specs.inner.Window.{Lined, Solid, Starts, Takes};
-ghost use Rattle.ascii_line_reader.specs.inner.Columns.{TypePart, ChannelPart, DirectionPart, IdPart};
+ghost use Rattle.ascii_line_reader.specs.inner.Columns.{TypePart, ChannelNumber, ChannelPart, DirectionPart, IdPart};
 ghost use Rattle.ascii_line_reader.specs.inner.Frame.{FromType, ChannelOf, BarOf, ExtendedOf, DirectionOf, IdOf, LengthOf, DataOf, frameOf, Leads};
 
 // No frame.
@@ -70,6 +70,24 @@ fn type_part(w: &[u8; WINDOW], at: usize) -> Scan
     }
 }
 
+// The channel: a lone 0, or that of a bus.
+fn channel_number(w: &[u8; WINDOW], at: usize) -> Scan
+    requires { ⌜ Starts (now w) at ⌝ }
+    ensures { λ s. ⌜ Takes ChannelNumber (now (w .entry)) at s ⌝ }
+{
+    let bytes: &[u8] = w;
+    if bytes[at] != b'0' {
+        return bus_field(w, at);
+    }
+    if !ends(bytes[at + 1]) {
+        return none();
+    }
+    Scan {
+        end: at + 1,
+        value: 0,
+    }
+}
+
 // `#` and the channel.
 fn channel_part(w: &[u8; WINDOW], at: usize) -> Scan
     requires { ⌜ Starts (now w) at ⌝ }
@@ -82,7 +100,7 @@ fn channel_part(w: &[u8; WINDOW], at: usize) -> Scan
     if ends(bytes[at + 1]) {
         return none();
     }
-    bus_field(w, at + 1)
+    channel_number(w, at + 1)
 }
 
 // `Rx` or `Tx`.

@@ -1,4 +1,5 @@
--- Export of what was read: for every accepted text, line by line the same stamps, directions, IDs, channels and bytes, in house spelling.
+-- Export of what was read, with channel 0 for bus 0: for every accepted text, line by line the same stamps, directions, IDs, channels and bytes, in
+-- house spelling. So with any channel, where no line has channel 0.
 use Prim.Native.Nat.{ℕ, _+_, _*_, _≤_, _<_}
 use mathlib.Core.Path.{_≡_, refl, ap, _∙_}
 use mathlib.Core.Logic.{_⊎_, inl, inr}
@@ -6,6 +7,7 @@ use mathlib.Core.List.{List, [], _∷_, _++_}
 use native.Mathlib.Omega.{arith}
 use lib.ListN.{length, take, drop}
 use lib.Seq.{take-at}
+use Rattle.base.specs.Limits.{lastBus}
 use Rattle.base.proofs.Numbers.{below-or-not}
 use Rattle.clock.specs.declared.DateTime.{DateTime}
 use Rattle.clock.specs.Start.{startLimit}
@@ -16,11 +18,11 @@ use Rattle.records.specs.Records.{Each, none, more, packed}
 use Rattle.records.proofs.Packing.{packed-length}
 use Rattle.fields.specs.Columns.{lastNumber}
 use Rattle.ascii_line.specs.Line.{lineText}
-use Rattle.ascii.specs.Promise.{exportNumbers, channelOf, lineOf, Exports, lineCount, leftCount, Given, ExportPromise}
+use Rattle.ascii.specs.Promise.{exportNumbers, lineOf, Exports, lineCount, leftCount, Given, ExportPromise}
 use Rattle.ascii.specs.Promise as export
 use Rattle.ascii.specs.declared.Exported.the-variants as exported
 use Rattle.ascii.proofs.Answers.{one-export}
-use Rattle.ascii.proofs.Channels.{own-channel}
+use Rattle.ascii.proofs.Channels.{own-channel, same-channel}
 use Rattle.ascii.proofs.Exporting.{frame-line, counts-sum}
 use Rattle.ascii_line_reader.specs.AsciiLine.{instant, AsciiLine}
 use Rattle.ascii_line_reader.proofs.Theorems.{line-formed, line-ticks}
@@ -28,7 +30,7 @@ use Rattle.ascii_reader.specs.Text.{Lines, over, line, FirstStart, no-li
 use Rattle.ascii_reader.specs.Text
 use Rattle.ascii_reader.specs.Promise.{ReadAsciiPromise, large, refused, many, no-room, done}
 use Rattle.ascii_reader.proofs.Stops.{refused-numbers}
-use Rattle.ascii_reader.proofs.OwnLines.{Dated, line-back}
+use Rattle.ascii_reader.proofs.OwnLines.{Dated, OnItsBus, line-back}
 
 -- The stamp of a line is the one that its start and offset give.
 line-stamp : {start : ℕ} {s : DateTime} {r : Record} {l : List ℕ} → AsciiLine s r l → instant s ≡ start * 1000 + r .offset → Stamp start (r .offset) s
@@ -37,33 +39,29 @@ line-stamp a e =
     let t = x .time in
     record { time = record { low = omega arith; high = omega arith; hour = t .hour; minute = t .minute; second = t .second; part = t .part }; date = x .date }
 
--- A line of its own channel is the line of its record.
-own-bus : {s : DateTime} {r : Record} {l : List ℕ} → AsciiLine s r l → channelOf (r .bus) ≡ r .bus
-own-bus {r = r} a = own-channel (r .bus) (λ e. omega (arith, a .frame .first-channel))
-
 -- What was read exports to some text, which has the same values, and is read as the same start and records.
-pub record Returned (start : ℕ) (rs : List Record) (text : List ℕ) : Type 0 where
+pub record Returned (start channel : ℕ) (rs : List Record) (text : List ℕ) : Type 0 where
   pub out : List ℕ
-  pub exports : Exports start rs out
+  pub exports : Exports start channel rs out
   pub respelled : Respelled text out
   pub lines : Lines start rs out
 
-returned : {start : ℕ} {rs : List Record} {text : List ℕ} → Lines start rs text → Returned start rs text
-returned over = record { out = []; exports = export.none; respelled = Text.Respelled.over; lines = over }
-returned {start} (line {s = s} {r = r} {rs = rs} {text = text} f a e h ls) =
-    let x = returned ls in
+returned : {start channel : ℕ} {rs : List Record} {text : List ℕ} → channel ≤ lastBus → Each (OnItsBus channel) rs → Lines start rs text
+    → Returned start channel rs text
+returned c none over = record { out = []; exports = export.none; respelled = Text.Respelled.over; lines = over }
+returned {start} {channel} c (more q qs) (line {s = s} {r = r} {rs = rs} {text = text} f a e h ls) =
+    let x = returned c qs ls in
     let t = line-stamp a e in
     let m = line-ticks a in
     let w = line-formed a h in
     let b : Dated start r = omega arith in
     let k = a .frame .kind in
-    let q = own-bus a in
-    let y : lineOf s r ≡ lineText s (r .bus) r = ap (λ (n : ℕ). lineText s n r) q in
+    let y : lineOf channel s r ≡ lineText s (r .bus) r = ap (λ (n : ℕ). lineText s n r) q in
     record {
-      out = lineOf s r ++ x .out;
+      out = lineOf channel s r ++ x .out;
       exports = export.line k t (x .exports);
       respelled = rw y (Text.Respelled.line f a (x .respelled));
-      lines = line-back w k t b (a .frame .first-channel) e (x .lines);
+      lines = line-back c w k t b q e (x .lines);
     }
 
 -- Every record that was read gives a line, and is well formed.
@@ -76,7 +74,7 @@ frames (line {r = r} f a e h ls) = rw (frame-line r (a .frame .kind), frames ls)
 none-left : {start : ℕ} {rs : List Record} {text : List ℕ} → Lines start rs text → leftCount rs ≡ 0
 none-left {rs = rs} ls = omega (arith, counts-sum rs, frames ls)
 
-all-formed : {start : ℕ} {rs : List Record} {text : List ℕ} → Lines start rs text → Each WellFormed rs
+pub all-formed : {start : ℕ} {rs : List Record} {text : List ℕ} → Lines start rs text → Each WellFormed rs
 all-formed over = none
 all-formed (line f a e h ls) = more (line-formed a h) (all-formed ls)
 
@@ -89,15 +87,16 @@ start-within s = go (s .first) (s .lines)
     go (cut o) (line f a e h ls) = omega (arith, line-ticks a)
 
 -- So what was read is refused by no export, but for room.
-pub read-given : {start : ℕ} {rs : List Record} {text : List ℕ} → SpellsAscii start rs text → length rs ≤ lastNumber
-    → (x : Returned start rs text) × Given start (packed rs) rs (x .out)
-read-given {rs = rs} s h =
-    let x = returned (s .lines) in
+pub read-given : {start channel : ℕ} {rs : List Record} {text : List ℕ} → channel ≤ lastBus → Each (OnItsBus channel) rs → SpellsAscii start rs text
+    → length rs ≤ lastNumber → (x : Returned start channel rs text) × Given start channel (packed rs) rs (x .out)
+read-given {rs = rs} c q s h =
+    let x = returned c q (s .lines) in
     let n = packed-length rs in (
       x,
       record {
         whole = record { twenties = omega arith; few = omega arith };
         limit = start-within s;
+        is-channel = c;
         packs = record { formed = all-formed (s .lines); bytes = refl };
         exports = x .exports;
       },
@@ -111,13 +110,14 @@ pub data ExportsBack (text old : List ℕ) (start n : ℕ) (a new : List ℕ) : 
   no-space : {out : List ℕ} → Respelled text out → length old < length out → a ≡ exportNumbers (exported.Refused 25 0) → new ≡ old
       → ExportsBack text old start n a new
 
-exports-back : {start n : ℕ} {rs : List Record} {text old a new : List ℕ} → SpellsAscii start rs text → length rs ≤ lastNumber → n ≡ length rs
-    → ExportPromise start (packed rs) old a new → ExportsBack text old start n a new
-exports-back {start} {n} {rs} {text} {old} {a} {new} s h e p =
-    let x = read-given s h in
+exports-back : {start channel n : ℕ} {rs : List Record} {text old a new : List ℕ} → channel ≤ lastBus → Each (OnItsBus channel) rs
+    → SpellsAscii start rs text → length rs ≤ lastNumber → n ≡ length rs → ExportPromise start channel (packed rs) old a new
+    → ExportsBack text old start n a new
+exports-back {start} {channel} {n} {rs} {text} {old} {a} {new} c k s h e p =
+    let x = read-given c k s h in
     go x (below-or-not (length old) (length (x .0 .out)))
   where
-    go : (x : (y : Returned start rs text) × Given start (packed rs) rs (y .out)) → (length old < length (x .0 .out)) ⊎ (length (x .0 .out) ≤ length old)
+    go : (x : (y : Returned start channel rs text) × Given start channel (packed rs) rs (y .out)) → (length old < length (x .0 .out)) ⊎ (length (x .0 .out) ≤ length old)
         → ExportsBack text old start n a new
     go x (inl l) = let q = one-export p (export.no-room (x .1) l refl refl) in no-space (x .0 .respelled) l (q .0) (q .1)
     go x (inr l) =
@@ -133,14 +133,35 @@ other {n} e h = let z : 0 ≡ n = cc in omega arith
 told : {a b m n : ℕ} → 0 ∷ 0 ∷ a ∷ n ∷ [] ≡ 0 ∷ 0 ∷ b ∷ m ∷ [] → (a ≡ b) × (n ≡ m)
 told e = (cc, cc)
 
--- The order's sentence, over the promises: what `read_ascii` handed out, exported with its start, by any program.
-pub export-of-read : {start n : ℕ} {text before after old a new : List ℕ} → ReadAsciiPromise text before (0 ∷ 0 ∷ start ∷ n ∷ []) after
-    → ExportPromise start (take (20 * n) after) old a new → ExportsBack text old start n a new
-export-of-read (large l e q) p = absurd (other e (omega arith))
-export-of-read (refused l f e q) p = absurd (other e (omega (arith, refused-numbers f .0)))
-export-of-read (many l s m e q) p = absurd (other e (omega arith))
-export-of-read (no-room l s m r e q) p = absurd (other e (omega arith))
-export-of-read {n = n} {before = before} {after = after} (done {start = b} {rs = rs} l s m r e q) p =
+-- What `read_ascii` handed out, exported with its start, by any program, with a channel that leaves each record on its bus.
+back : {start channel n : ℕ} {text before after old a new : List ℕ} → channel ≤ lastBus
+    → ((rs : List Record) → SpellsAscii start rs text → Each (OnItsBus channel) rs) → ReadAsciiPromise text before (0 ∷ 0 ∷ start ∷ n ∷ []) after
+    → ExportPromise start channel (take (20 * n) after) old a new → ExportsBack text old start n a new
+back c k (large l e q) p = absurd (other e (omega arith))
+back c k (refused l f e q) p = absurd (other e (omega (arith, refused-numbers f .0)))
+back c k (many l s m e q) p = absurd (other e (omega arith))
+back c k (no-room l s m r e q) p = absurd (other e (omega arith))
+back {n = n} {before = before} {after = after} c k (done {start = b} {rs = rs} l s m r e q) p =
     let i = told e in
     let z : take (20 * n) after ≡ packed rs = rw (q, i .1) (take-at (packed rs) (drop (20 * length rs) before) (20 * length rs) (packed-length rs)) in
-    exports-back (rw (← (i .0)) at s) m (i .1) (rw z at p)
+    let t = rw (← (i .0)) at s in
+    exports-back c (k rs t) t m (i .1) (rw z at p)
+
+each : {P : Record → Type 0} → ((r : Record) → P r) → (rs : List Record) → Each P rs
+each f [] = none
+each f (r ∷ rs) = more (f r) (each f rs)
+
+-- The sentences of Orders 4 and 6, over the promises: with channel 0,
+pub export-of-read : {start n : ℕ} {text before after old a new : List ℕ} → ReadAsciiPromise text before (0 ∷ 0 ∷ start ∷ n ∷ []) after
+    → ExportPromise start 0 (take (20 * n) after) old a new → ExportsBack text old start n a new
+export-of-read = back (omega arith) (λ rs s. each (λ r. same-channel (r .bus)) rs)
+
+-- and with any, where no line has channel 0.
+pub export-on-buses : {start channel n : ℕ} {text before after old a new : List ℕ} → channel ≤ lastBus
+    → ((rs : List Record) → SpellsAscii start rs text → Each (λ r. 1 ≤ r .bus) rs) → ReadAsciiPromise text before (0 ∷ 0 ∷ start ∷ n ∷ []) after
+    → ExportPromise start channel (take (20 * n) after) old a new → ExportsBack text old start n a new
+export-on-buses {channel = channel} c k = back c (λ rs s. go (k rs s))
+  where
+    go : {rs : List Record} → Each (λ r. 1 ≤ r .bus) rs → Each (OnItsBus channel) rs
+    go none = none
+    go (more {r = r} l ls) = more (own-channel channel (r .bus) (λ e. omega arith)) (go ls)

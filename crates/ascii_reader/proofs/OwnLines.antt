@@ -1,12 +1,12 @@
--- Our own lines are such lines: what `export` wrote is never refused with 31, up to day 99,999.
+-- Our own lines are such lines, whatever channel bus 0 was given: what `export` wrote is never refused with 31, up to day 99,999.
 use Prim.Native.Nat.{ℕ, suc, _+_, _*_, _≤_, _<_}
 use mathlib.Core.Path.{_≡_, refl, ap, _∙_}
 use mathlib.Core.Logic.{_≢_, inl}
 use mathlib.Core.List.{List, [], _∷_, _++_, append-assoc}
 use native.Mathlib.Omega.{arith}
-use native.Mathlib.Decide.{ℕ-discrete}
 use lib.ListN.{length, take, drop, length-append}
 use lib.Seq.{take-at}
+use Rattle.base.specs.Limits.{lastBus}
 use Rattle.clock.specs.declared.DateTime.{DateTime}
 use Rattle.clock.specs.Stamp.{Stamp}
 use Rattle.record.specs.declared.Record.{Record}
@@ -17,7 +17,7 @@ use Rattle.ascii_line.specs.Line.{idDigits, lineText}
 use Rattle.ascii.specs.Promise.{channelOf, lineOf, Exports, ExportPromise}
 use Rattle.ascii.specs.Promise
 use Rattle.ascii.proofs.Answers.{stopped-number}
-use Rattle.ascii.proofs.Channels.{first-channel, own-channel, channel-most}
+use Rattle.ascii.proofs.Channels.{channel-most}
 use Rattle.ascii.proofs.Exporting.{exports-line, export-most}
 use Rattle.ascii_line_reader.specs.AsciiLine.{instant, StampFits, FrameFits, AsciiLine}
 use Rattle.ascii_line_reader.specs.inner.Answer.{tickLimit}
@@ -41,12 +41,12 @@ stamp-fits s h =
       last = omega arith;
     }
 
--- The record on its channel: bus 0 is written as channel 1.
-abbrev pub onChannel : Record → Record
-onChannel r =
+-- The record on the channel that it is written as: bus 0 on the one that is given.
+abbrev pub onChannel : ℕ → Record → Record
+onChannel channel r =
     record {
       offset = r .offset;
-      bus = channelOf (r .bus);
+      bus = channelOf channel (r .bus);
       kind = r .kind;
       extended = r .extended;
       id = r .id;
@@ -54,20 +54,19 @@ onChannel r =
       «data» = r .«data»;
     }
 
-channel-low : (bus : ℕ) → 1 ≤ channelOf bus
-channel-low bus = go (ℕ-discrete bus 0)
-  where
-    go : Dec (bus ≡ 0) → 1 ≤ channelOf bus
-    go (yes e) = rw (first-channel bus e) (omega arith)
-    go (no n) = rw (own-channel bus n) (omega arith)
+-- That is the channel of its bus, where the channel that is given for bus 0 says so: where 0 is given, or where it is on another bus.
+abbrev pub OnItsBus : ℕ → Record → Type 0
+OnItsBus channel r = channelOf channel (r .bus) ≡ r .bus
 
 -- The line of a record, as it is exported, is such a line.
-module _ {start : ℕ} {r : Record} {s : DateTime} (w : WellFormed r) (k : r .kind ≤ 1) (t : Stamp start (r .offset) s)
+module _ {start channel : ℕ} {r : Record} {s : DateTime} (c : channel ≤ lastBus) (w : WellFormed r) (k : r .kind ≤ 1) (t : Stamp start (r .offset) s)
     (h : Dated start r) where
-  fits : FrameFits (onChannel r)
+  bus : channelOf channel (r .bus) ≤ lastBus
+  bus = channel-most channel (r .bus) c (w .bus)
+
+  fits : FrameFits (onChannel channel r)
   fits = record {
-    first-channel = channel-low (r .bus);
-    last-channel = channel-most (r .bus) (w .bus);
+    channel = bus;
     kind = k;
     extended = w .extended;
     standard = w .standard;
@@ -75,43 +74,48 @@ module _ {start : ℕ} {r : Record} {s : DateTime} (w : WellFormed r) (k : r .ki
     len = w .len;
   }
 
-  formed : WellFormed (onChannel r)
-  formed = frame-formed (onChannel r) (omega arith) (w .offset) (channel-most (r .bus) (w .bus)) (w .extended) (w .standard) (w .id) (w .len) (w .eight) (w .past) (w .remote)
+  formed : WellFormed (onChannel channel r)
+  formed = frame-formed (onChannel channel r) (omega arith) (w .offset) bus (w .extended) (w .standard) (w .id) (w .len) (w .eight) (w .past) (w .remote)
 
-  pub own-line : AsciiLine s (onChannel r) (houseLine s (onChannel r))
+  pub own-line : AsciiLine s (onChannel channel r) (houseLine s (onChannel channel r))
   own-line = house-line (stamp-fits t h) fits formed
 
-  same-text : lineOf s r ≡ lineText s (channelOf (r .bus)) (onChannel r)
+  same-text : lineOf channel s r ≡ lineText s (channelOf channel (r .bus)) (onChannel channel r)
   unfolding lineText idDigits
   same-text = refl
 
-  pub own-ended : (rest : List ℕ) → EndedLine (houseLine s (onChannel r)) rest (lineOf s r ++ rest)
+  pub own-ended : (rest : List ℕ) → EndedLine (houseLine s (onChannel channel r)) rest (lineOf channel s r ++ rest)
   own-ended rest =
-      let e = same-text ∙ house-text s (onChannel r) in
-      let m = export-most (more w none) (exports-line k t) in
+      let e = same-text ∙ house-text s (onChannel channel r) in
+      let m = export-most c (more w none) (exports-line k t) in
       record {
         inside = house-inside (stamp-fits t h) fits formed;
-        short = omega (arith, ap length e ∙ length-append (houseLine s (onChannel r)) (13 ∷ 10 ∷ []));
-        ended = inl (ap (λ (x : List ℕ). x ++ rest) e ∙ append-assoc (houseLine s (onChannel r)) (13 ∷ 10 ∷ []) rest);
+        short = omega (arith, ap length e ∙ length-append (houseLine s (onChannel channel r)) (13 ∷ 10 ∷ []));
+        ended = inl (ap (λ (x : List ℕ). x ++ rest) e ∙ append-assoc (houseLine s (onChannel channel r)) (13 ∷ 10 ∷ []) rest);
       }
 
-  -- on a bus of its own it is read as that record, with its offset, where the stamp cuts nothing off
-  pub line-back : {rs : List Record} {rest : List ℕ} → 1 ≤ r .bus → instant s ≡ start * 1000 + r .offset → Lines start rs rest
-      → Lines start (r ∷ rs) (lineOf s r ++ rest)
-  line-back {rest = rest} b e ls =
-      let q = own-channel (r .bus) (λ z. omega arith) in
-      let z : onChannel r ≡ r = λ i. record { offset = r .offset; bus = q i; kind = r .kind; extended = r .extended; id = r .id; len = r .len; «data» = r .«data» } in
-      Text.line (rw z at (own-ended rest)) (rw z at own-line) e (w .offset) ls
+  -- it is read as that record on its channel, with its offset, where the stamp cuts nothing off: bus 0 that was given channel 1 comes back as bus 1,
+  pub channel-back : {rs : List Record} {rest : List ℕ} → instant s ≡ start * 1000 + r .offset → Lines start rs rest
+      → Lines start (onChannel channel r ∷ rs) (lineOf channel s r ++ rest)
+  channel-back {rest = rest} e ls = Text.line (own-ended rest) own-line e (w .offset) ls
+
+  -- and as that record itself, where it is written on its bus
+  pub line-back : {rs : List Record} {rest : List ℕ} → OnItsBus channel r → instant s ≡ start * 1000 + r .offset → Lines start rs rest
+      → Lines start (r ∷ rs) (lineOf channel s r ++ rest)
+  line-back q e ls =
+      let z : onChannel channel r ≡ r = λ i. record { offset = r .offset; bus = q i; kind = r .kind; extended = r .extended; id = r .id; len = r .len; «data» = r .«data» } in
+      rw z at (channel-back e ls)
 
 -- A text of such lines alone.
 pub data SuchLines : List ℕ → Type 0 where
   over : SuchLines []
   line : {s : DateTime} {r : Record} {l rest text : List ℕ} → EndedLine l rest text → AsciiLine s r l → SuchLines rest → SuchLines text
 
-pub own-lines : {start : ℕ} {rs : List Record} {text : List ℕ} → Each WellFormed rs → Each (Dated start) rs → Exports start rs text → SuchLines text
-own-lines none none Promise.none = over
-own-lines (more w ws) (more h hs) (Promise.line {text = text} k t x) = line (own-ended w k t h text) (own-line w k t h) (own-lines ws hs x)
-own-lines (more w ws) (more h hs) (Promise.left k x) = own-lines ws hs x
+pub own-lines : {start channel : ℕ} {rs : List Record} {text : List ℕ} → channel ≤ lastBus → Each WellFormed rs → Each (Dated start) rs
+    → Exports start channel rs text → SuchLines text
+own-lines c none none Promise.none = over
+own-lines c (more w ws) (more h hs) (Promise.line {text = text} k t x) = line (own-ended c w k t h text) (own-line c w k t h) (own-lines c ws hs x)
+own-lines c (more w ws) (more h hs) (Promise.left k x) = own-lines c ws hs x
 
 -- Behind lines that were read such lines follow.
 behind : {start : ℕ} {rs : List Record} {front text : List ℕ} (rest : List ℕ) → Lines start rs front → SuchLines text → text ≡ front ++ rest → SuchLines rest
@@ -130,14 +134,14 @@ number : {n m : ℕ} {s t : List ℕ} → n ∷ s ≡ m ∷ t → n ≡ m
 number e = cc
 
 -- Over the promises: what any export wrote, from records up to day 99,999, no reading refuses with 31.
-pub own-export : {start n l k p : ℕ} {s before after old new : List ℕ} → ExportPromise start s before (0 ∷ 0 ∷ n ∷ l ∷ k ∷ []) after
+pub own-export : {start channel n l k p : ℕ} {s before after old new : List ℕ} → ExportPromise start channel s before (0 ∷ 0 ∷ n ∷ l ∷ k ∷ []) after
     → ((rs : List Record) → PacksAll rs s → Each (Dated start) rs) → ReadAsciiPromise (take n after) old (31 ∷ p ∷ 0 ∷ 0 ∷ []) new → ⊥
 own-export (Promise.refused f e q) d r = let z = number e in omega (arith, stopped-number f)
 own-export (Promise.no-room g m e q) d r = let z = number e in omega arith
 own-export {n = n} {before = before} {after = after} (Promise.done {rs = rs} {text = text} g m e q) d r =
     let i : n ≡ length text = cc (e) in
     let z : take n after ≡ text = rw (q, i) (take-at text (drop (length text) before) (length text) refl) in
-    go (own-lines (g .packs .formed) (d rs (g .packs)) (g .exports)) (rw z at r)
+    go (own-lines (g .is-channel) (g .packs .formed) (d rs (g .packs)) (g .exports)) (rw z at r)
   where
     go : {text old new : List ℕ} {p : ℕ} → SuchLines text → ReadAsciiPromise text old (31 ∷ p ∷ 0 ∷ 0 ∷ []) new → ⊥
     go x (read.large l e q) = let z = number e in omega arith

@@ -118,10 +118,16 @@ pub extern "C" fn bo_pack(fields: &[u64; 7], out: &mut [u8], answer: &mut [u64; 
 
 // Number, place, bytes, lines, left out.
 #[no_mangle]
-pub extern "C" fn bo_export(start: u64, records: &[u8], out: &mut [u8], answer: &mut [u64; 5])
-    ensures { λ _. ⌜ ExportPromise start (now (records .entry)) (now (out .entry)) (now (answer .exit)) (now (out .exit)) ⌝ }
+pub extern "C" fn bo_export(
+    start: u64,
+    channel: u64,
+    records: &[u8],
+    out: &mut [u8],
+    answer: &mut [u64; 5],
+)
+    ensures { λ _. ⌜ ExportPromise start channel (now (records .entry)) (now (out .entry)) (now (answer .exit)) (now (out .exit)) ⌝ }
 {
-    let a = export(start, records, out);
+    let a = export(start, channel, records, out);
     match a {
         Exported::Done {
             bytes,

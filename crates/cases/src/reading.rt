@@ -79,8 +79,8 @@ pub(crate) fn read(s: &[u8], room: usize) {
     read_into(s, &mut out, room);
 }
 
-// Reads a text of three rows, writes it again and exports it.
-fn again(s: &[u8], room: usize) {
+// Reads a text of three rows, writes it again and exports it, bus 0 as a channel.
+fn again(s: &[u8], room: usize, channel: u64) {
     let mut records = [238u8; 60];
     let a = trace::read(s, &mut records);
     match a {
@@ -92,7 +92,7 @@ fn again(s: &[u8], room: usize) {
             first,
         } => {
             written(version, start, first, &records, room);
-            exported(start, &records, room, false);
+            exported(start, channel, &records, room, false);
         }
         Outcome::Refused {
             number: _,
@@ -124,7 +124,7 @@ pub(crate) fn tried(word: u64, line: &[u8]) -> bool {
             true
         }
         AGAIN => {
-            again(s, a[0] as usize);
+            again(s, a[0] as usize, a[1]);
             true
         }
         ROW => {

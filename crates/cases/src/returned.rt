@@ -54,15 +54,15 @@ pub(crate) fn read_lines(s: &[u8], room: usize) {
     read_into(s, &mut out, room);
 }
 
-// Reads lines, exports what is read, and reads that.
-fn returned(s: &[u8], room: usize) {
+// Reads lines, exports what is read, bus 0 as a channel, and reads that.
+fn returned(s: &[u8], room: usize, channel: u64) {
     let mut records = page();
     let a = read_ascii(s, &mut records);
     match a {
         AsciiRead::Done {
             start,
             records: given,
-        } => exported(start, front(&records, size(given)), room, true),
+        } => exported(start, channel, front(&records, size(given)), room, true),
         AsciiRead::Refused {
             number: _,
             place: _,
@@ -84,7 +84,7 @@ pub(crate) fn tried(word: u64, line: &[u8]) -> bool {
             true
         }
         RETURN => {
-            returned(s, a[0] as usize);
+            returned(s, a[0] as usize, a[1]);
             true
         }
         _ => false,

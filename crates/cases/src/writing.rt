@@ -52,11 +52,11 @@ fn lines(bytes: usize, lines: u64, left_out: u64, out: &[u8]) {
     output(out, bytes);
 }
 
-// Exports records, into the first `room` bytes of a page: number, place, bytes, lines, records left out and text; and, if it is wanted, what is read
-// back from it.
-fn export_into(start: u64, records: &[u8], out: &mut [u8], room: usize, back: bool) {
+// Exports records, bus 0 as a channel, into the first `room` bytes of a page: number, place, bytes, lines, records left out and text; and, if it is
+// wanted, what is read back from it.
+fn export_into(start: u64, channel: u64, records: &[u8], out: &mut [u8], room: usize, back: bool) {
     if room <= out.len() {
-        let e = ascii::export(start, records, &mut out[0..room]);
+        let e = ascii::export(start, channel, records, &mut out[0..room]);
         match e {
             Exported::Done {
                 bytes,
@@ -78,9 +78,9 @@ pub(crate) fn written(version: u64, start: u64, first: u64, records: &[u8], room
     write_into(version, start, first, records, &mut out, room);
 }
 
-pub(crate) fn exported(start: u64, records: &[u8], room: usize, back: bool) {
+pub(crate) fn exported(start: u64, channel: u64, records: &[u8], room: usize, back: bool) {
     let mut out = page();
-    export_into(start, records, &mut out, room, back);
+    export_into(start, channel, records, &mut out, room, back);
 }
 
 // Writes the first bytes of records.
@@ -97,8 +97,14 @@ fn write(a: [u64; 9], s: &[u8]) {
 
 // Exports the first bytes of records.
 fn export(a: [u64; 9], s: &[u8]) {
-    let records = records_of(s, a[3] as usize);
-    exported(a[0], front(&records, a[1] as usize), a[2] as usize, false);
+    let records = records_of(s, a[4] as usize);
+    exported(
+        a[0],
+        a[1],
+        front(&records, a[2] as usize),
+        a[3] as usize,
+        false,
+    );
 }
 
 // Tries a case of several records, if the word is one. The records stand behind a colon and a blank.

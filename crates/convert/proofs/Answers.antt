@@ -18,13 +18,13 @@ use Rattle.ascii.specs.Promise.{Exports}
 use Rattle.ascii.proofs.Exporting.{exports-one, export-most}
 use Rattle.convert.specs.declared.Printed.{Printed}
 use Rattle.convert.specs.declared.Printed.the-variants as printed
-use Rattle.convert.specs.Promise.{inputLimit, refusalText, Prints, TooShort, ConvertPromise, recordsRoom, pageRoom}
+use Rattle.convert.specs.Promise.{inputLimit, benchChannel, refusalText, Prints, TooShort, ConvertPromise, recordsRoom, pageRoom}
 use Rattle.convert.specs.Promise as promise
 use Rattle.convert.specs.inner.Page as on-page
 use Rattle.convert.proofs.Texts.{refusal-length}
 
 -- Two traces spelled by one input export to one text.
-text-one : {t u : Trace} {input x y : List ℕ} → Spells t input → Spells u input → Exports (t .start) (t .records) x → Exports (u .start) (u .records) y
+text-one : {t u : Trace} {input x y : List ℕ} → Spells t input → Spells u input → Exports (t .start) benchChannel (t .records) x → Exports (u .start) benchChannel (u .records) y
     → x ≡ y
 text-one s z e f = exports-one (rw (one-trace s z) at e) f
 
@@ -81,7 +81,7 @@ untouched (promise.short s e q) = (s, q)
 
 -- A trace without lines whose records have room is no case of too little room, whatever the page: its answer is 0 bytes.
 pub empty-export : {input before after : List ℕ} {records : ℕ} {t : Trace} {r : Printed} → length input ≤ inputLimit → Spells t input
-    → 20 * length (t .records) ≤ records → Exports (t .start) (t .records) [] → ConvertPromise input records before r after
+    → 20 * length (t .records) ≤ records → Exports (t .start) benchChannel (t .records) [] → ConvertPromise input records before r after
     → (r ≡ printed.Page 0) × (after ≡ before)
 empty-export h s l e p =
     one-convert p (answered (promise.export h s e) (λ u k z. omega (arith, count-one s z)) (on-page.put (omega arith) refl refl))
@@ -119,7 +119,7 @@ enough h k (promise.no-records l s m) = omega (arith, rows-few s)
 enough h k (promise.no-page (promise.large l) m) = omega (arith, refusal-few {number = 1} {place = 0} (omega arith) (omega arith))
 enough h k (promise.no-page (promise.refused {number = n} {place = o} l f) m) =
     omega (arith, refusal-few {number = n} {place = o} (omega (arith, refused-numbers f .1)) (omega (arith, place-few f)))
-enough h k (promise.no-page (promise.export l s e) m) = omega (arith, rows-few s, export-most (read-writable s .formed) e)
+enough h k (promise.no-page (promise.export l s e) m) = omega (arith, rows-few s, export-most (omega arith) (read-writable s .formed) e)
 
 -- So with that the answer is a page, and on it what is to be printed, for every input.
 pub prints : {input before after : List ℕ} {records : ℕ} {r : Printed} → recordsRoom ≤ records → pageRoom ≤ length before

@@ -26,7 +26,7 @@ use Rattle.ascii.specs.Promise as ascii
 use Rattle.ascii.proofs.Answers.{never-stopped}
 use Rattle.convert.specs.declared.Printed.{Printed}
 use Rattle.convert.specs.declared.Printed.the-variants as printed
-use Rattle.convert.specs.Promise.{inputLimit, refusalText, large, refused, export, TooShort, no-records, no-page, ConvertPromise, short}
+use Rattle.convert.specs.Promise.{inputLimit, benchChannel, refusalText, large, refused, export, TooShort, no-records, no-page, ConvertPromise, short}
 use Rattle.convert.proofs.Answers.{count-one, answered}
 
 -- The input is too long, or is refused: its line is put, if there is room for it.
@@ -72,13 +72,13 @@ module _ {version start first rows steps : ℕ} {input records x : List ℕ} (h 
   held = record { formed = able .formed; bytes = reading .front }
 
   -- Records that were read are not refused.
-  never : {n q : ℕ} → ascii.ExportStopped start (take (20 * rows) x) n q → ⊥
+  never : {n q : ℕ} → ascii.ExportStopped start benchChannel (take (20 * rows) x) n q → ⊥
   never =
       let l = ap length (held .bytes) ∙ packed-length (reading .records) in
-      never-stopped (record { twenties = omega arith; few = omega (arith, rows-numbered (able .numbered)) }) (able .start) held
+      never-stopped (record { twenties = omega arith; few = omega (arith, rows-numbered (able .numbered)) }) (able .start) (omega arith) held
 
   -- The text that they export to is that of the trace.
-  of-trace : {text : List ℕ} {rs : List Record} → ascii.Given start (take (20 * rows) x) rs text → Exports start (reading .records) text
+  of-trace : {text : List ℕ} {rs : List Record} → ascii.Given start benchChannel (take (20 * rows) x) rs text → Exports start benchChannel (reading .records) text
   of-trace g = rw (packs-all-one (g .packs) held) at (g .exports)
 
   -- The records of the trace, whatever trace it is, had room.
@@ -86,7 +86,7 @@ module _ {version start first rows steps : ℕ} {input records x : List ℕ} (h 
   held-all t k s = omega (arith, reading .room, count-one (reading .spelled) s)
 
   -- Only the room on the page can be missing,
-  pub unwritten : {n q : ℕ} {page after : List ℕ} → Numbered (exported.Refused n q) → ExportPromise start (take (20 * rows) x) page (exportNumbers (exported.Refused n q)) after
+  pub unwritten : {n q : ℕ} {page after : List ℕ} → Numbered (exported.Refused n q) → ExportPromise start benchChannel (take (20 * rows) x) page (exportNumbers (exported.Refused n q)) after
       → ConvertPromise input (length records) page printed.Short after
   unwritten k (ascii.refused f e d) = absurd (never f)
   unwritten k (ascii.no-room g l e d) = short (no-page (export h (reading .spelled) (of-trace g)) l) refl d
@@ -94,7 +94,7 @@ module _ {version start first rows steps : ℕ} {input records x : List ℕ} (h 
 
   -- and else the export is printed.
   pub exported-all : {bytes lines others : ℕ} {page after : List ℕ}
-      → ExportPromise start (take (20 * rows) x) page (exportNumbers (exported.Done bytes lines others)) after
+      → ExportPromise start benchChannel (take (20 * rows) x) page (exportNumbers (exported.Done bytes lines others)) after
       → ConvertPromise input (length records) page (printed.Page bytes) after
   exported-all (ascii.refused f e d) = absurd (never f)
   exported-all (ascii.no-room g l e d) = let z : _≡_ {A = ℕ} 0 25 = cc in absurd (omega arith)

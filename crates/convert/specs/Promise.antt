@@ -15,6 +15,10 @@ use Rattle.convert.specs.declared.Printed.the-variants as printed
 abbrev pub inputLimit : ℕ
 inputLimit = 65536
 
+-- The channel that bus 0 is printed as.
+abbrev pub benchChannel : ℕ
+benchChannel = 1
+
 -- `refused 7 at line 4` and CR LF.
 unfoldable pub refusalText : ℕ → ℕ → List ℕ
 refusalText number place =
@@ -24,7 +28,7 @@ refusalText number place =
 pub data Prints (input : List ℕ) : List ℕ → Type 0 where
   large : inputLimit < length input → Prints input (refusalText 1 0)
   refused : {number place : ℕ} → length input ≤ inputLimit → RefusedAtLine input number place → Prints input (refusalText number place)
-  export : {t : Trace} {text : List ℕ} → length input ≤ inputLimit → Spells t input → Exports (t .start) (t .records) text
+  export : {t : Trace} {text : List ℕ} → length input ≤ inputLimit → Spells t input → Exports (t .start) benchChannel (t .records) text
       → Prints input text
 
 -- What is lent is too short, with so many bytes for records and so many on the page: the trace is good and its records have no room, or what is

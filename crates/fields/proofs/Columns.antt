@@ -44,7 +44,7 @@ hex-digit-plain x (d, p) = visible (go p)
     go (small q) = cased-high (omega arith) q
 
 -- The bytes of digits are plain.
-decimals : {b n : ℕ} {s : List ℕ} → Digits DecimalDigit b s n → All Plain s
+pub decimals : {b n : ℕ} {s : List ℕ} → Digits DecimalDigit b s n → All Plain s
 decimals r = all-map decimal-plain (digits-all r)
 
 hexes : {b n : ℕ} {s : List ℕ} → Digits HexDigit b s n → All Plain s

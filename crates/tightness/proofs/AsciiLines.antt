@@ -151,21 +151,27 @@ module _ {s : DateTime} {r : Record} {line : List ℕ} where
       go : {fs : List (List ℕ)} → FromType r (f ∷ fs) → ⊥
       go (from-type x c) = no-type (r .extended) (x .few) (λ e. n (x .bytes ∙ ap messageTypeText e)) (λ e. m (x .bytes ∙ ap messageTypeText e))
 
-  -- a channel other than 1 to 16
-  no-channel : {d t m : List ℕ} {fs : List (List ℕ)} (n : ℕ) → (1 ≤ n → n ≤ 16 → ⊥) → Parted (d ∷ t ∷ m ∷ channelText n ∷ fs) line → AsciiLine s r line → ⊥
-  no-channel n f p a = go (line-frame a p refl)
+  -- a channel read as another bus, as 0 as 1
+  pub another-bus : {d t m : List ℕ} {fs : List (List ℕ)} (n : ℕ) → r .bus ≢ n → Parted (d ∷ t ∷ m ∷ channelText n ∷ fs) line → AsciiLine s r line → ⊥
+  another-bus n f p a = go (line-frame a p refl)
     where
       go : {m : List ℕ} {fs : List (List ℕ)} → FromType r (m ∷ channelText n ∷ fs) → ⊥
       go (from-type x (from-channel c b)) =
           let e : decimalText n ≡ decimalText (r .bus) = cc (c .bytes) in
-          let k = one-decimal (rw e at (decimal-spells n)) (decimal-spells (r .bus)) in
-          f (omega (arith, c .low)) (omega (arith, c .high))
+          f (one-decimal (decimal-spells (r .bus)) (rw e at (decimal-spells n)))
 
+  -- a channel above 16
   pub channel-17 : {d t m : List ℕ} {fs : List (List ℕ)} (n : ℕ) → 16 < n → Parted (d ∷ t ∷ m ∷ channelText n ∷ fs) line → AsciiLine s r line → ⊥
-  channel-17 n h = no-channel n (λ l k. omega arith)
+  channel-17 n h p a = another-bus n (λ e. omega (arith, a .frame .channel)) p a
 
-  pub channel-0 : {d t m : List ℕ} {fs : List (List ℕ)} → Parted (d ∷ t ∷ m ∷ channelText 0 ∷ fs) line → AsciiLine s r line → ⊥
-  channel-0 = no-channel 0 (λ l k. omega arith)
+  -- a channel with a leading zero, as `#00` and `#01`
+  pub channel-led-by-0 : {d t m g : List ℕ} {x : ℕ} {fs : List (List ℕ)} → Parted (d ∷ t ∷ m ∷ (35 ∷ 48 ∷ x ∷ g) ∷ fs) line → AsciiLine s r line → ⊥
+  channel-led-by-0 p a = go (line-frame a p refl)
+    where
+      go : {m g : List ℕ} {x : ℕ} {fs : List (List ℕ)} → FromType r (m ∷ (35 ∷ 48 ∷ x ∷ g) ∷ fs) → ⊥
+      go {g = g} {x = x} (from-type y (from-channel c b)) =
+          let e : decimalText (r .bus) ≡ 48 ∷ x ∷ g = cc (c .bytes) in
+          (rw e at (decimal-spells (r .bus))) .lead (omega arith) refl
 
   -- `CANExt` without `EXTENDED`, or with another word, as one in small letters
   pub other-word : {d t c b f : List ℕ} {fs : List (List ℕ)} → f ≢ text "EXTENDED" → Parted (d ∷ t ∷ text "CANExt" ∷ c ∷ b ∷ f ∷ fs) line

@@ -138,19 +138,19 @@ write-touched p n = n (writing.untouched (λ e. omega arith) p)
 
 -- export
 
-pub export-touched : {start : ℕ} {s before after : List ℕ} → ExportPromise start s before (25 ∷ 0 ∷ 0 ∷ 0 ∷ 0 ∷ []) after → after ≢ before → ⊥
+pub export-touched : {start channel : ℕ} {s before after : List ℕ} → ExportPromise start channel s before (25 ∷ 0 ∷ 0 ∷ 0 ∷ 0 ∷ []) after → after ≢ before → ⊥
 export-touched p n = n (exporting.untouched (λ e. omega arith) p)
 
 -- one line more than there are records of kinds 0 and 1
-pub one-line-more : {start bytes left : ℕ} {s before after : List ℕ} {rs : List Record} → PacksAll rs s
-    → ExportPromise start s before (0 ∷ 0 ∷ bytes ∷ suc (lineCount rs) ∷ left ∷ []) after → ⊥
+pub one-line-more : {start channel bytes left : ℕ} {s before after : List ℕ} {rs : List Record} → PacksAll rs s
+    → ExportPromise start channel s before (0 ∷ 0 ∷ bytes ∷ suc (lineCount rs) ∷ left ∷ []) after → ⊥
 one-line-more h p =
     let (qs, k, e, d) = exporting.counted p in
     omega (arith, e, ap lineCount (packs-all-one k h))
 
 -- lines and records left out, swapped
-pub counts-swapped : {start bytes : ℕ} {s before after : List ℕ} {rs : List Record} → PacksAll rs s → lineCount rs ≢ leftCount rs
-    → ExportPromise start s before (0 ∷ 0 ∷ bytes ∷ leftCount rs ∷ lineCount rs ∷ []) after → ⊥
+pub counts-swapped : {start channel bytes : ℕ} {s before after : List ℕ} {rs : List Record} → PacksAll rs s → lineCount rs ≢ leftCount rs
+    → ExportPromise start channel s before (0 ∷ 0 ∷ bytes ∷ leftCount rs ∷ lineCount rs ∷ []) after → ⊥
 counts-swapped h n p =
     let (qs, k, e, d) = exporting.counted p in
     n (omega (arith, e, ap lineCount (packs-all-one k h)))

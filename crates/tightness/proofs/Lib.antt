@@ -1,6 +1,7 @@
 pub mod AsciiLines
 pub mod Entry
 pub mod Explaining
+pub mod ExportChannels
 pub mod Exporters
 pub mod Lines
 pub mod LongOffsets

@@ -68,8 +68,8 @@ number-at-a-record (writing.no-room w s r e u) = let z : _≡_ {A = ℕ} 26 25 =
 number-at-a-record (writing.done w s r e u) = let z : _≡_ {A = ℕ} 26 0 = cc in omega arith
 
 -- export: 23 is given with a record
-pub export-record-lost : {start bytes lines left : ℕ} {s before after : List ℕ}
-    → exporting.ExportPromise start s before (23 ∷ 0 ∷ bytes ∷ lines ∷ left ∷ []) after → ⊥
+pub export-record-lost : {start channel bytes lines left : ℕ} {s before after : List ℕ}
+    → exporting.ExportPromise start channel s before (23 ∷ 0 ∷ bytes ∷ lines ∷ left ∷ []) after → ⊥
 export-record-lost (exporting.refused {n = n} {p = p} t e u) =
     let y : n ≡ 23 = cc in let z : 0 ≡ p = cc in let f = stopped-23 t y in omega (arith, f .at)
 export-record-lost (exporting.no-room g l e u) = let z : _≡_ {A = ℕ} 23 25 = cc in omega arith

@@ -25,6 +25,7 @@ use Rattle.trace_writer.specs.Promise as writing
 use Rattle.ascii.specs.Promise.{lineOf, ExportPromise}
 use Rattle.ascii.specs.Promise as exporting
 use Rattle.ascii.proofs.Answers.{stopped-23}
+use Rattle.ascii.proofs.Channels.{same-channel}
 use Rattle.ascii_line_reader.specs.AsciiLine.{withOffset, instant}
 use Rattle.ascii_reader.specs.Text.{over, cut, SpellsAscii}
 use Rattle.ascii_reader.specs.Promise.{ReadAsciiPromise}
@@ -43,7 +44,7 @@ module _ {r : Record} (w : WellFormed r) (o : ℕ) (h : o < 2 ^ 48) (front back 
   given = record { formed = each-append f (more (every-offset o h w) b); bytes = refl }
 
   -- export: 23
-  pub old-limit-in-export : {start : ℕ} {before after ns : List ℕ} → ExportPromise start (packed list) before (23 ∷ ns) after → ⊥
+  pub old-limit-in-export : {start channel : ℕ} {before after ns : List ℕ} → ExportPromise start channel (packed list) before (23 ∷ ns) after → ⊥
   old-limit-in-export (exporting.refused {n = n} f e z) = let y : n ≡ 23 = cc in none-malformed given (stopped-23 f y)
   old-limit-in-export (exporting.no-room g l e z) = let y : _≡_ {A = ℕ} 23 25 = cc in omega arith
   old-limit-in-export (exporting.done g l e z) = let y : _≡_ {A = ℕ} 23 0 = cc in omega arith
@@ -75,16 +76,16 @@ module _ {r : Record} (w : WellFormed r) (o : ℕ) (h : o < 2 ^ 48) (front back 
 whole-stamp : {start o : ℕ} {s : DateTime} → Stamp start o s → o % 100 ≡ 0 → instant s ≡ start * 1000 + o
 whole-stamp p e = omega (arith, p .time .low, p .time .high)
 
-module _ {start o : ℕ} {r : Record} {s t : DateTime} (w : WellFormed r) (k : r .kind ≤ 1) (b : 1 ≤ r .bus) (h : o < 2 ^ 48) (e : o % 100 ≡ 0)
+module _ {start o : ℕ} {r : Record} {s t : DateTime} (w : WellFormed r) (k : r .kind ≤ 1) (h : o < 2 ^ 48) (e : o % 100 ≡ 0)
     (d : Dated start (withOffset o r)) (p : Stamp start 0 s) (q : Stamp start o t) where
   abbrev two : List ℕ
-  two = lineOf s (withOffset 0 r) ++ (lineOf t (withOffset o r) ++ [])
+  two = lineOf 0 s (withOffset 0 r) ++ (lineOf 0 t (withOffset o r) ++ [])
 
   spelled : SpellsAscii start (withOffset 0 r ∷ withOffset o r ∷ []) two
   spelled = record {
     first = cut {r = withOffset 0 r} (omega arith);
-    lines = line-back (every-offset 0 (omega arith) w) k p (omega arith) b (whole-stamp p refl)
-        (line-back (every-offset o h w) k q d b (whole-stamp q e) over);
+    lines = line-back (omega arith) (every-offset 0 (omega arith) w) k p (omega arith) (same-channel (r .bus)) (whole-stamp p refl)
+        (line-back (omega arith) (every-offset o h w) k q d (same-channel (r .bus)) (whole-stamp q e) over);
   }
 
   -- read_ascii: 33

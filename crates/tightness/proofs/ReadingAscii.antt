@@ -28,7 +28,7 @@ use Rattle.ascii_reader.specs.Text
 use Rattle.ascii_reader.specs.Promise.{ReadUpTo, NextStamp, AsciiRefusedAt, ReadAsciiPromise, large, refused, many, no-room, done}
 use Rattle.ascii_reader.specs.Promise
 use Rattle.ascii_reader.proofs.Answers.{one-read-ascii}
-use Rattle.ascii_reader.proofs.Back.{read-given}
+use Rattle.ascii_reader.proofs.Back.{all-formed}
 use Rattle.ascii_reader.proofs.Ends.{LineEnd, closed-one, ended-one, ended-none, end-some}
 use Rattle.ascii_reader.proofs.Exactly.{number-0, accepted, accepts}
 use Rattle.ascii_reader.proofs.One.{one-result}
@@ -149,7 +149,7 @@ module _ {text before after : List ℕ} {start : ℕ} {rs : List Record} (s : Sp
     other-records d k r =
         let x = handed r in
         let z : take (20 * n) after ≡ packed rs = rw (x .3, x .1) (take-at (packed rs) (drop (20 * length rs) before) (20 * length rs) (packed-length rs)) in
-        d (packs-all-one k (record { formed = read-given s (x .2) .1 .packs .formed; bytes = z }))
+        d (packs-all-one k (record { formed = all-formed (s .lines); bytes = z }))
 
 -- The records with every offset lessened.
 abbrev pub lessened : ℕ → List Record → List Record

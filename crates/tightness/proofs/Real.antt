@@ -22,10 +22,10 @@ use Rattle.tightness.specs.Tight.{Tried, Real}
 use Rattle.tightness.proofs.Tried.{writable, recordsOf, textOf}
 
 -- Some text is what records export to.
-some-export : (start : ℕ) (rs : List Record) → (text : List ℕ) × Exports start rs text
-some-export start [] = ([], none)
-some-export start (r ∷ rs) =
-    let (text, e) = some-export start rs in
+pub some-export : (start channel : ℕ) (rs : List Record) → (text : List ℕ) × Exports start channel rs text
+some-export start channel [] = ([], none)
+some-export start channel (r ∷ rs) =
+    let (text, e) = some-export start channel rs in
     elim (decLt 1 (r .kind)) [ yes h ↦ (text, left h e) | no h ↦ (_, line {r = r} (omega arith) (some-stamp start (r .offset) .1) e) ]
 
 whole : {t : Trace} → Writable t → Whole (packed (t .records))
@@ -59,8 +59,8 @@ real {t} h =
         refl,
         WritePromise.done w refl r refl refl,
       );
-      is-exported = λ out r.
-          let (x, e) = some-export (t .start) rs in (
+      is-exported = λ channel c out r.
+          let (x, e) = some-export (t .start) channel rs in (
             record {
               number = 0;
               place = 0;
@@ -70,7 +70,7 @@ real {t} h =
               after = x ++ drop (length x) (out .list);
             },
             refl,
-            ExportPromise.done (record { whole = whole w; limit = w .start; packs = record { formed = w .formed; bytes = refl }; exports = e })
-                (omega (arith, export-most (w .formed) e)) refl refl,
+            ExportPromise.done (record { whole = whole w; limit = w .start; is-channel = c; packs = record { formed = w .formed; bytes = refl }; exports = e })
+                (omega (arith, export-most c (w .formed) e)) refl refl,
           );
     }

@@ -33,7 +33,7 @@ write-quiet (WritePromise.refused f e q) = refusal 1 e q
 write-quiet (WritePromise.no-room w i l e q) = refusal 1 e q
 write-quiet (WritePromise.done w i l e q) = no-refusal e
 
-pub export-quiet : {start : ℕ} {s before a after : List ℕ} → ExportPromise start s before a after → Touched a before after → ⊥
+pub export-quiet : {start channel : ℕ} {s before a after : List ℕ} → ExportPromise start channel s before a after → Touched a before after → ⊥
 export-quiet (ExportPromise.refused f e q) = refusal 3 e q
 export-quiet (ExportPromise.no-room g l e q) = refusal 3 e q
 export-quiet (ExportPromise.done g l e q) = no-refusal e

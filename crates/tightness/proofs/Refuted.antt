@@ -28,8 +28,10 @@ tight = record {
   invents-left-out = λ k. Exporters.invents-left-out k;
   reader-touches = λ k text out. Refusals.read-quiet (k .keeps text out);
   writer-touches = λ k version start first records out. Refusals.write-quiet (k .keeps version start first records out);
-  exporter-touches = λ k start records out. Refusals.export-quiet (k .keeps start records out);
+  exporter-touches = λ k start channel records out. Refusals.export-quiet (k .keeps start channel records out);
   says-one = λ k. Readers.says-one k;
   numbers-from-one = λ k. Writers.numbers-from-one k;
+  gives-one = λ k. Exporters.gives-one k;
+  gives-all = λ k. Exporters.gives-all k;
   real = λ w. real w;
 }

@@ -43,6 +43,7 @@ pub one-writer : {f g : Writer} → KeepsWrite f → KeepsWrite g → (version s
 one-writer {f} {g} k j version start first records out =
     same-written (f version start first records out) (g version start first records out) (one-write (k .keeps version start first records out) (j .keeps version start first records out))
 
-pub one-exporter : {f g : Exporter} → KeepsExport f → KeepsExport g → (start : ℕ) (records out : Lent) → f start records out ≡ g start records out
-one-exporter {f} {g} k j start records out =
-    same-exported (f start records out) (g start records out) (one-export (k .keeps start records out) (j .keeps start records out))
+pub one-exporter : {f g : Exporter} → KeepsExport f → KeepsExport g → (start channel : ℕ) (records out : Lent)
+    → f start channel records out ≡ g start channel records out
+one-exporter {f} {g} k j start channel records out =
+    same-exported (f start channel records out) (g start channel records out) (one-export (k .keeps start channel records out) (j .keeps start channel records out))

@@ -80,7 +80,7 @@ pub room-for-the-text-refused : {version start first p n : ℕ} {before after : 
 room-for-the-text-refused w l p = let e = writes w l p .0 in let z : _≡_ {A = ℕ} 25 0 = cc in omega arith
 
 -- What stands behind the same bytes.
-same-behind : (a : List ℕ) {x y : List ℕ} → a ++ x ≡ a ++ y → x ≡ y
+pub same-behind : (a : List ℕ) {x y : List ℕ} → a ++ x ≡ a ++ y → x ≡ y
 same-behind a {x} {y} e = sym (drop-append-seam a x) ∙ ap (drop (length a)) e ∙ drop-append-seam a y
 
 -- nine digits in the fraction of the day, whatever they are

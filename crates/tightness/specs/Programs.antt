@@ -8,8 +8,8 @@ use Rattle.trace.specs.Promise.{ReadPromise}
 use Rattle.trace_writer.specs.Promise.{WritePromise}
 use Rattle.ascii.specs.Promise.{ExportPromise}
 
--- What a program is lent: bytes. (On a machine lengths and numbers end somewhere; what lies past that is refused with 1, 20, 21, 22 or 26, or is
--- room that no answer needs.)
+-- What a program is lent: bytes. (On a machine lengths and numbers end somewhere; what lies past that is refused with 1, 20, 21, 22, 26 or 35, or
+-- is room that no answer needs.)
 pub record Lent : Type 0 where
   pub list : List ℕ
   pub small : AreBytes list
@@ -63,7 +63,7 @@ pub record KeepsWrite (g : Writer) : Type 0 where
 abbrev pub writtenText : FromWriter → List ℕ
 writtenText a = take (a .bytes) (a .after)
 
--- An exporter is given a start, records and an output. It gives five numbers, and what the output then holds.
+-- An exporter is given a start, a channel for bus 0, records and an output. It gives five numbers, and what the output then holds.
 pub record FromExporter : Type 0 where
   pub number : ℕ
   pub place : ℕ
@@ -73,11 +73,15 @@ pub record FromExporter : Type 0 where
   pub after : List ℕ
 
 abbrev pub Exporter : Type 0
-Exporter = ℕ → Lent → Lent → FromExporter
+Exporter = ℕ → ℕ → Lent → Lent → FromExporter
 
 abbrev pub five : FromExporter → List ℕ
 five a = a .number ∷ a .place ∷ a .bytes ∷ a .lines ∷ a .left ∷ []
 
 pub record KeepsExport (e : Exporter) : Type 0 where
-  pub keeps : (start : ℕ) (records out : Lent)
-      → ExportPromise start (records .list) (out .list) (five (e start records out)) (e start records out .after)
+  pub keeps : (start channel : ℕ) (records out : Lent)
+      → ExportPromise start channel (records .list) (out .list) (five (e start channel records out)) (e start channel records out .after)
+
+-- The text that it has exported.
+abbrev pub exportedText : FromExporter → List ℕ
+exportedText a = take (a .bytes) (a .after)

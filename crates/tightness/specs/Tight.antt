@@ -4,6 +4,7 @@ use Prim.Native.Nat.{ℕ, _*_, _≤_}
 use mathlib.Core.Path.{_≡_}
 use mathlib.Core.List.{List, [], _∷_}
 use lib.ListN.{length}
+use Rattle.base.specs.Limits.{lastBus}
 use Rattle.record.specs.declared.Record.{Record}
 use Rattle.records.specs.Records.{packed}
 use Rattle.trace.specs.Trace.{sizeLimit, Trace, Spells, traceOf}
@@ -11,7 +12,7 @@ use Rattle.trace.specs.Promise.{ReadPromise}
 use Rattle.trace_writer.specs.Promise.{WritePromise}
 use Rattle.ascii.specs.Promise.{ExportPromise}
 use Rattle.tightness.specs.Programs.{Lent, FromReader, Reader, seven, KeepsRead, handedOut, FromWriter, Writer, three, KeepsWrite, writtenText, FromExporter, Exporter, five, KeepsExport}
-use Rattle.tightness.specs.Wrong.{RefusesAll, RefusesWritten, SameVersion, SameStart, SameFirst, SameRecords, SameAlways, DoesNothing, CopiesFirst, WritesFirst, InventsRows, InventsLeftOut, Touched, SaysOne, NumbersFromOne}
+use Rattle.tightness.specs.Wrong.{RefusesAll, RefusesWritten, SameVersion, SameStart, SameFirst, SameRecords, SameAlways, DoesNothing, CopiesFirst, WritesFirst, InventsRows, InventsLeftOut, Touched, SaysOne, NumbersFromOne, GivesOne, GivesAll}
 
 -- The text is accepted, and this trace handed out.
 pub record HandsOut (t : Trace) (a : FromReader) : Type 0 where
@@ -45,15 +46,16 @@ pub record Real (t : Trace) : Type 0 where
       → (a : FromReader) × (a .number ≡ 0) × ReadPromise (text .list) (out .list) (seven a) (a .after)
   pub is-written : (out : Lent) → length (text .list) ≤ length (out .list)
       → (a : FromWriter) × (a .number ≡ 0) × WritePromise (t .version) (t .start) (t .first) (records .list) (out .list) (three a) (a .after)
-  pub is-exported : (out : Lent) → 86 * length (t .records) ≤ length (out .list)
-      → (a : FromExporter) × (a .number ≡ 0) × ExportPromise (t .start) (records .list) (out .list) (five a) (a .after)
+  pub is-exported : (channel : ℕ) → channel ≤ lastBus → (out : Lent) → 86 * length (t .records) ≤ length (out .list)
+      → (a : FromExporter) × (a .number ≡ 0) × ExportPromise (t .start) channel (records .list) (out .list) (five a) (a .after)
 
 pub record Tight : Type 0 where
   -- "The promise leaves room for one answer only": two programs that keep it are the same function
   pub one-reader : {f g : Reader} → KeepsRead f → KeepsRead g → (text out : Lent) → f text out ≡ g text out
   pub one-writer : {f g : Writer} → KeepsWrite f → KeepsWrite g → (version start first : ℕ) (records out : Lent)
       → f version start first records out ≡ g version start first records out
-  pub one-exporter : {f g : Exporter} → KeepsExport f → KeepsExport g → (start : ℕ) (records out : Lent) → f start records out ≡ g start records out
+  pub one-exporter : {f g : Exporter} → KeepsExport f → KeepsExport g → (start channel : ℕ) (records out : Lent)
+      → f start channel records out ≡ g start channel records out
   -- 1, by demand 3's acceptance: what spells a trace is accepted, given room,
   pub accepts : {f : Reader} {t : Trace} → KeepsRead f → (text out : Lent) → length (text .list) ≤ sizeLimit → Spells t (text .list)
       → 20 * length (t .records) ≤ length (out .list) → HandsOut t (f text out)
@@ -82,10 +84,13 @@ pub record Tight : Type 0 where
   pub reader-touches : {f : Reader} → KeepsRead f → (text out : Lent) → Touched (seven (f text out)) (out .list) (f text out .after) → ⊥
   pub writer-touches : {g : Writer} → KeepsWrite g → (version start first : ℕ) (records out : Lent)
       → Touched (three (g version start first records out)) (out .list) (g version start first records out .after) → ⊥
-  pub exporter-touches : {e : Exporter} → KeepsExport e → (start : ℕ) (records out : Lent)
-      → Touched (five (e start records out)) (out .list) (e start records out .after) → ⊥
+  pub exporter-touches : {e : Exporter} → KeepsExport e → (start channel : ℕ) (records out : Lent)
+      → Touched (five (e start channel records out)) (out .list) (e start channel records out .after) → ⊥
   -- 7
   pub says-one : {f : Reader} → KeepsRead f → SaysOne f → ⊥
   pub numbers-from-one : {g : Writer} → KeepsWrite g → NumbersFromOne g → ⊥
+  -- 8
+  pub gives-one : {e : Exporter} → KeepsExport e → GivesOne e → ⊥
+  pub gives-all : {e : Exporter} → KeepsExport e → GivesAll e → ⊥
   -- and what they were tried with
   pub real : {t : Trace} → Tried t → Real t

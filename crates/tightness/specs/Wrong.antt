@@ -4,10 +4,13 @@ use mathlib.Core.Path.{_≡_}
 use mathlib.Core.Logic.{_≢_, _⊎_}
 use mathlib.Core.List.{List, [], _∷_}
 use lib.ListN.{length, getD, drop, replicate}
+use Rattle.clock.specs.declared.DateTime.{DateTime}
+use Rattle.clock.specs.Stamp.{Stamp}
 use Rattle.record.specs.declared.Record.{Record}
 use Rattle.records.specs.Records.{packed, PacksAll}
 use Rattle.trace.specs.Trace.{Trace, Spells}
-use Rattle.tightness.specs.Programs.{Lent, FromReader, Reader, handedOut, handedOutAt, Writer, writtenText, Exporter}
+use Rattle.ascii_line.specs.Line.{lineText}
+use Rattle.tightness.specs.Programs.{Lent, FromReader, Reader, handedOut, handedOutAt, Writer, writtenText, Exporter, exportedText}
 
 -- 1. "A reader that refuses everything": its number is never 0;
 abbrev pub RefusesAll : Reader → Type 0
@@ -74,6 +77,7 @@ pub data Counted : List Record → ℕ → ℕ → Type 0 where
 
 pub record InventsLeftOut (e : Exporter) : Type 0 where
   pub start : ℕ
+  pub channel : ℕ
   pub given : Lent
   pub out : Lent
   pub records : List Record
@@ -81,8 +85,8 @@ pub record InventsLeftOut (e : Exporter) : Type 0 where
   pub lines : ℕ
   pub left : ℕ
   pub counted : Counted records lines left
-  pub accepted : e start given out .number ≡ 0
-  pub invented : (e start given out .lines ≢ lines) ⊎ (e start given out .left ≢ left)
+  pub accepted : e start channel given out .number ≡ 0
+  pub invented : (e start channel given out .lines ≢ lines) ⊎ (e start channel given out .left ≢ left)
 
 -- 6. "A refusal gives number and place, zeros for all else, and the output is untouched": one whose first number is not 0, and that gives some
 -- count or touches the output all the same. The numbers are those of a reader, a writer or an exporter.
@@ -99,3 +103,15 @@ abbrev pub NumbersFromOne : Writer → Type 0
 NumbersFromOne g =
     (version start first : ℕ) (records out : Lent) → g version start first records out .number ≡ 0 → g version start 1 records out .number ≡ 0
     → writtenText (g version start first records out) ≡ writtenText (g version start 1 records out)
+
+-- 8. Of Order 6: an exporter that writes bus 0 as channel 1, whatever channel it is given, where it exports for both;
+abbrev pub GivesOne : Exporter → Type 0
+GivesOne e =
+    (start channel : ℕ) (records out : Lent) → e start channel records out .number ≡ 0 → e start 1 records out .number ≡ 0
+    → exportedText (e start channel records out) ≡ exportedText (e start 1 records out)
+
+-- and one that writes every bus as the channel that it is given: its text of one data frame is the line on that channel, whatever the bus.
+abbrev pub GivesAll : Exporter → Type 0
+GivesAll e =
+    (start channel : ℕ) (r : Record) (s : DateTime) (records out : Lent) → records .list ≡ packed (r ∷ []) → r .kind ≤ 1 → Stamp start (r .offset) s
+    → e start channel records out .number ≡ 0 → exportedText (e start channel records out) ≡ lineText s channel r

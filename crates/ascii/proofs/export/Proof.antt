@@ -4,7 +4,7 @@ use native.Mathlib.Omega.{arith}
 use borrow.Author.Needs.{needs}
 use Rattle.base.proofs.Tests.{shown-not, refuted-not}
 use Rattle.records.specs.Records.{Whole}
-use Rattle.ascii.specs.Promise.{refused, no-records, late, is-refused}
+use Rattle.ascii.specs.Promise.{refused, no-records, late, no-channel, is-refused}
 use Rattle.ascii.proofs.export.Statement.{statement}
 use Rattle.ascii.proofs.export.Tie as tie
 
@@ -19,6 +19,7 @@ export-spec =
     (λ c κs. tt)
     (λ c. (refused (no-records (refuted-not (c .before .whole .result) (c .before .whole .ensures) (c .if1 .taken))) refl refl, is-refused (omega arith)))
     (λ c. (refused (late (whole (c .before)) (c .if2 .taken)) refl refl, is-refused (omega arith)))
-    (λ c κs. (whole (c .before .before), c .before .if2 .left))
+    (λ c. (refused (no-channel (whole (c .before .before)) (c .before .if2 .left) (c .if3 .taken)) refl refl, is-refused (omega arith)))
+    (λ c κs. (whole (c .before .before .before), c .before .before .if2 .left, c .before .if3 .left))
     (λ c. search needs)
     (λ c. c .before .before .put-all .ensures))

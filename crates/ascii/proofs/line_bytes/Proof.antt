@@ -15,9 +15,10 @@ line-bytes-spec =
     (λ c. (left (is-left (c .before .before .args .r) (c .before .frame .ensures .0) (c .if1 .taken)) refl, omega arith))
     (λ c κs. search needs)
     (λ c κs.
-    let w = c .before .before .before .pre in
-    (w .extended, omega (arith, c .channel .ensures, channel-most (c .before .before .before .args .r .bus) (w .bus)), w .len))
+    let a = c .before .before .before in
+    let w = a .pre .0 in
+    (w .extended, omega (arith, c .channel-of .ensures, channel-most (a .args .channel) (a .args .r .bus) (a .pre .1) (w .bus)), w .len))
     (λ c.
-    let n = c .before .channel .ensures in
+    let n = c .before .channel-of .ensures in
     let l = c .line-length .ensures in
     (line (is-line (c .before .before .before .before .args .r) (c .before .before .before .frame .ensures .0) (c .before .before .if1 .left)) (rw n at (l .0)), l .1)))

@@ -9,37 +9,37 @@ use Rattle.ascii.proofs.measure_lines.Statement.{statement}
 use Rattle.ascii.proofs.measure_lines.Tie as tie
 
 abbrev Inv-loop : tie.InvT-loop
-Inv-loop s at₀ k₀ bytes₀ lines₀ at k bytes lines = Measuring s at k bytes lines
+Inv-loop channel s at₀ k₀ bytes₀ lines₀ at k bytes lines = Measuring channel s at k bytes lines
 
 abbrev μ-loop : tie.MeasureT-loop
-μ-loop s at₀ k₀ bytes₀ lines₀ at k bytes lines = length s - at
+μ-loop channel s at₀ k₀ bytes₀ lines₀ at k bytes lines = length s - at
 
 -- the record that is being measured is whole
 room : (c : tie.After-frame Inv-loop μ-loop) → c .before .before .before .before .before .before .before .loop .at + 20 ≤ length (c .before .before .before .before .before .before .before .before .before .args .records .now)
-room c = one-more (c .before .before .before .before .before .before .before .loop .inv .judged) (c .before .before .before .before .before .before .before .before .before .pre) (c .before .before .before .before .before .before .loop-test .taken) .0
+room c = one-more (c .before .before .before .before .before .before .before .loop .inv .judged) (c .before .before .before .before .before .before .before .before .before .pre .0) (c .before .before .before .before .before .before .loop-test .taken) .0
 
 pub measure-lines-spec : {M : Type 1} → statement M
 measure-lines-spec =
     tie.close
     (tie.spec Inv-loop μ-loop
-    (λ c. measuring _)
-    (λ c. let m = one-more (c .before .loop .inv .judged) (c .before .before .before .pre) (c .loop-test .taken) .1 in omega arith)
-    (λ c κs. one-more (c .before .loop .inv .judged) (c .before .before .before .pre) (c .loop-test .taken) .0)
+    (λ c. measuring _ _)
+    (λ c. let m = one-more (c .before .loop .inv .judged) (c .before .before .before .pre .0) (c .loop-test .taken) .1 in omega arith)
+    (λ c κs. one-more (c .before .loop .inv .judged) (c .before .before .before .pre .0) (c .loop-test .taken) .0)
     (λ c. search needs)
     (λ c. search needs)
     (λ c.
     let l = c .before .before .before .before .loop .inv .judged in
-    let h = one-more l (c .before .before .before .before .before .before .pre) (c .before .before .before .loop-test .taken) .0 in
+    let h = one-more l (c .before .before .before .before .before .before .pre .0) (c .before .before .before .loop-test .taken) .0 in
     malformed-next l h (rw (c .enum-told .given .1) at (c .before .before .record-at .ensures)))
-    (λ c κs. let p = rw (c .before .e .given .1) at (c .before .before .before .record-at .ensures) in p .formed)
+    (λ c κs. let p = rw (c .before .e .given .1) at (c .before .before .before .record-at .ensures) in (p .formed, c .before .before .before .before .before .before .before .pre .1))
     (λ c.
     let l = c .before .before .before .before .before .before .loop .inv in
-    let m = one-more (l .judged) (c .before .before .before .before .before .before .before .before .pre) (c .before .before .before .before .before .loop-test .taken) .1 in
+    let m = one-more (l .judged) (c .before .before .before .before .before .before .before .before .pre .0) (c .before .before .before .before .before .loop-test .taken) .1 in
     omega (arith, l .bounded, c .line-bytes .ensures .1))
     (λ c κs. search needs)
     (λ c.
     let l = c .before .before .before .before .before .before .before .loop .inv in
-    let m = one-more (l .judged) (c .before .before .before .before .before .before .before .before .before .pre) (c .before .before .before .before .before .before .loop-test .taken) .1 in
+    let m = one-more (l .judged) (c .before .before .before .before .before .before .before .before .before .pre .0) (c .before .before .before .before .before .before .loop-test .taken) .1 in
     omega (arith, l .few, c .frame .ensures .1))
     (λ c. let h = room c in omega arith)
     (λ c. let h = room c in omega arith)

@@ -16,9 +16,9 @@ put-export-spec =
     let a = c .before .before .before .before .before in
     let p = a .pre in
     let k = is-line (a .args .r) (c .before .before .before .frame .ensures .0) (c .before .before .if1 .left) in
-    (p .0 .extended, k, p .0 .len, (p .1 .0, rw (c .channel .ensures) (p .1 .1 k)), p .2))
+    (p .0 .extended, k, p .0 .len, (p .1 .0, rw (c .channel-of .ensures) (p .1 .1 k)), p .2))
     (λ c. search needs)
     (λ c s b.
     let a = c .before .before .before .before .before .before .before .before in
-    let n = c .before .before .before .channel .ensures in
+    let n = c .before .before .before .channel-of .ensures in
     line (is-line (a .args .r) (c .before .before .before .before .before .before .frame .ensures .0) (c .before .before .before .before .before .if1 .left)) (rw n at (c .before .before .put-line .ensures s b))))

@@ -13,10 +13,10 @@ use Rattle.ascii.proofs.put_lines.Statement.{statement}
 use Rattle.ascii.proofs.put_lines.Tie as tie
 
 abbrev Inv-loop : tie.InvT-loop
-Inv-loop start s out₀ at₀ p₀ last₀ head₀ pairs out at p last head = Putting start s out₀ out at p × Shows head last
+Inv-loop start channel s out₀ at₀ p₀ last₀ head₀ pairs out at p last head = Putting start channel s out₀ out at p × Shows head last
 
 abbrev μ-loop : tie.MeasureT-loop
-μ-loop start s out₀ at₀ p₀ last₀ head₀ pairs out at p last head = length s - at
+μ-loop start channel s out₀ at₀ p₀ last₀ head₀ pairs out at p last head = length s - at
 
 -- the record that is being put is whole
 whole : (c : tie.After-slice-known2 Inv-loop μ-loop) → c .before .before .before .before .before .before .before .before .before .before .before .loop .at + 20 ≤ length (c .before .before .before .before .before .before .before .before .before .before .before .before .before .before .before .before .before .args .records .now)

@@ -3,7 +3,7 @@ use Prim.Native.Nat.{ℕ, _+_, _*_, _≤_, _<_}
 use mathlib.Core.Path.{_≡_}
 use mathlib.Core.List.{List}
 use Rattle.base.specs.Limits.{lastBus}
-use Rattle.digits.specs.Digits.{Hex}
+use Rattle.digits.specs.Digits.{Decimal, Hex}
 use Rattle.clock.specs.declared.CalendarDay.{CalendarDay}
 use Rattle.clock.specs.declared.DayTime.{DayTime}
 use Rattle.clock.specs.Date.{Date, lastDay}
@@ -31,10 +31,14 @@ pub record TypePart (extended : ℕ) (f : List ℕ) : Type 0 where
   pub bytes : f ≡ messageTypeText extended
   pub few : extended ≤ 1
 
--- The channel, 1 to 16.
+-- The number of a channel, 0 to 16, no leading zero.
+pub record ChannelNumber (channel : ℕ) (f : List ℕ) : Type 0 where
+  pub spelled : Decimal channel f
+  pub high : channel ≤ lastBus
+
+-- `#` and the channel, 0 to 16.
 pub record ChannelPart (channel : ℕ) (f : List ℕ) : Type 0 where
   pub bytes : f ≡ channelText channel
-  pub low : 1 ≤ channel
   pub high : channel ≤ lastBus
 
 -- The direction: 0 received, 1 sent.

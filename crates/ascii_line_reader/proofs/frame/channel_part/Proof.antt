@@ -1,4 +1,4 @@
--- `ascii_line_reader::frame::channel_part` reads `#`, and a bus behind it.
+-- `ascii_line_reader::frame::channel_part` reads `#`, and the channel's number behind it.
 use mathlib.Core.Logic.{inl, inr}
 use native.Mathlib.Omega.{arith}
 use borrow.Author.Needs.{needs}
@@ -25,4 +25,4 @@ channel-part-spec =
     (λ c. omega (arith, here (sharp (c .before .before .before .before .before .before .pre) (c .before .before .before .if1 .left))))
     (λ c κs. let n = refuted (c .before .ends .result) (c .if2 .left) (c .before .ends .ensures) in
     record { lined = sharp (c .before .before .before .before .before .before .pre) (c .before .before .before .if1 .left) .lined; solid = record { blank = λ e. n (inl e); end = λ e. n (inr e) } })
-    (λ c. channel-takes (c .before .before .before .before .before .before .before .pre) (c .before .before .before .before .if1 .left) (c .bus-field .ensures)))
+    (λ c. channel-takes (c .before .before .before .before .before .before .before .pre) (c .before .before .before .before .if1 .left) (c .channel-number .ensures)))
