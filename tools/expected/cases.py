@@ -153,9 +153,10 @@ for family in open(sys.argv[1], encoding='ascii').read().split('\n'):
         lines.append(shown(fill(line, n, '%')) + ' -> ' + answer(fill(line, n, plain(given, n))))
 
 # The paper's small trace, its limits, the errors that look right, what Order 1 says of a line, Order 3 of first numbers, Order 4 of lines that are read back,
-# and Order 5 of offsets: how these lines begin. The answers are the papers'; where they print none, as for the start near a half (3,160,952,640,065.49984 before
-# rounding), for the bits of a record, for the fields of Order 1, for the bytes of Order 3, for the starts and offsets of Order 4 and for the rows, bits and stamps
-# at the limit of Order 5 (which is twelve F, and 55 past a multiple of 100; 10^14 is 5AF3107A4000), they were worked out by hand.
+# Order 5 of offsets, and Order 6 of the channel for bus 0: how these lines begin. The answers are the papers'; where they print none, as for the start near a half
+# (3,160,952,640,065.49984 before rounding), for the bits of a record, for the fields of Order 1, for the bytes of Order 3, for the starts and offsets of Order 4,
+# for the rows, bits and stamps at the limit of Order 5 (which is twelve F, and 55 past a multiple of 100; 10^14 is 5AF3107A4000) and for the lines of Order 6 and
+# their lengths (44 bytes for a standard ID with one digit of channel and no data), they were worked out by hand.
 
 PAPER = r'''
 read room 100 small trace: %1) 0.000 1 Rx 0123 2 0A FF\r\n2) 1500.250 2 Tx 18AB0001 0\r\n3) 1500.249 1 Rx 0124 3 RTR\r\n -> 0 0 12 3160987200000 3 3 1 000000000000080000048c82bfc0000000000000
@@ -395,6 +396,24 @@ ascii room 100 part 3554 on both sides of 47 bits: 30.12.1899 00:00:00.0000%15.0
 convert records 72800 page 313040 last stamp: ;$FILEVERSION=1.2\r\n;$STARTTIME=99999.9999999942\r\n1) 281474976710.655 9 Tx 0000 0\r\n -> 44 14.09.2182 19:29:36.7096 CAN #9 | Tx 000 0\r\n untouched
 convert records 72800 page 313040 7, line 3, past the last offset: ;$FILEVERSION=1.2\r\n;$STARTTIME=99999.9999999942\r\n1) 281474976710.656 9 Tx 0000 0\r\n -> 21 refused 7 at line 3\r\n untouched
 again room 300 channel 1 at the limit: %1) 281474976710.655 1 Rx 0123 2 0A FF\r\n2) 140737488355.328 2 Tx 18AB0001 0\r\n3) 100000000000.000 1 Rx 0124 3 RTR\r\n -> 0 0 162 ;$FILEVERSION=1.2\r\n;$STARTTIME=36585.5000000000\r\n1) 281474976710.655 1 Rx 0123 2 0A FF\r\n2) 140737488355.328 2 Tx 18AB0001 0\r\n3) 100000000000.000 1 Rx 0124 3 RTR\r\n untouched 0 0 12 3160987200000 3 2 1 ffffffffffff080000048c82bfc0000000000000
+export start 0 channel 0 bytes 20 room 300: 0 0 0 0 x123 2 x0AFF000000000000 -> 0 0 50 1 0 30.12.1899 00:00:00.0000 CAN #0 | Rx 123 2 0a ff\r\n untouched
+export start 0 channel 1 bytes 20 room 300: 0 0 0 0 x123 2 x0AFF000000000000 -> 0 0 50 1 0 30.12.1899 00:00:00.0000 CAN #1 | Rx 123 2 0a ff\r\n untouched
+export start 0 channel 9 bytes 20 room 300: 0 0 0 0 x123 2 x0AFF000000000000 -> 0 0 50 1 0 30.12.1899 00:00:00.0000 CAN #9 | Rx 123 2 0a ff\r\n untouched
+export start 0 channel 10 bytes 20 room 300: 0 0 0 0 x123 2 x0AFF000000000000 -> 0 0 51 1 0 30.12.1899 00:00:00.0000 CAN #10 | Rx 123 2 0a ff\r\n untouched
+export start 0 channel 16 bytes 20 room 300: 0 0 0 0 x123 2 x0AFF000000000000 -> 0 0 51 1 0 30.12.1899 00:00:00.0000 CAN #16 | Rx 123 2 0a ff\r\n untouched
+export start 0 channel 17 bytes 20 room 300: 0 0 0 0 x123 2 x0AFF000000000000 -> 35 0 untouched
+export start 8639999999999 channel 16 bytes 20 room 300: 281474976710655 0 1 1 x1FFFFFFF 8 xFFFFFFFFFFFFFFFF -> 0 0 86 1 0 14.09.2182 19:29:36.7096 CANExt #16 | EXTENDED Tx 1fffffff 8 ff ff ff ff ff ff ff ff\r\n untouched
+export start 0 channel 0 bytes 20 room 300: 0 1 0 0 x123 -> 0 0 44 1 0 30.12.1899 00:00:00.0000 CAN #1 | Rx 123 0\r\n untouched
+export start 0 channel 16 bytes 20 room 300: 0 1 0 0 x123 -> 0 0 44 1 0 30.12.1899 00:00:00.0000 CAN #1 | Rx 123 0\r\n untouched
+export start 0 channel 17 bytes 20 room 300: 0 1 0 0 x123 -> 35 0 untouched
+export start 0 channel 2 bytes 20 room 300: 0 16 0 1 x123 -> 0 0 62 1 0 30.12.1899 00:00:00.0000 CANExt #16 | EXTENDED Rx 00000123 0\r\n untouched
+export start 0 channel 16 bytes 20 room 300: 0 17 0 0 x123 -> 23 1 untouched
+export start 0 channel 17 bytes 20 room 300: 0 17 0 0 x123 -> 35 0 untouched
+export start 3160987200000 channel 1 bytes 60 room 300: % -> 0 0 161 3 0 29.02.2000 12:00:00.0000 CAN #1 | Rx 123 2 0a ff\r\n29.02.2000 12:00:00.0005 CAN #1 | Rx 123 2 0a ff\r\n29.02.2000 12:00:00.0010 CANExt #1 | EXTENDED Tx 18ab0001 0\r\n untouched
+export start 3160987200000 channel 0 bytes 60 room 300: % -> 0 0 161 3 0 29.02.2000 12:00:00.0000 CAN #0 | Rx 123 2 0a ff\r\n29.02.2000 12:00:00.0005 CAN #1 | Rx 123 2 0a ff\r\n29.02.2000 12:00:00.0010 CANExt #0 | EXTENDED Tx 18ab0001 0\r\n untouched
+export start 3160987200000 channel 0 bytes 140 room 300: % -> 0 0 132 3 4 29.02.2000 12:00:00.0000 CAN #0 | Rx 123 0\r\n29.02.2000 12:00:00.0002 CAN #1 | Rx 123 0\r\n29.02.2000 12:00:00.0006 CAN #0 | Tx 123 0\r\n untouched
+export start 0 channel 10 bytes 280 room 597 own 0 of bus 0: % -> 25 0 untouched
+export start 0 channel 10 bytes 280 room 598 own 0 of bus 0: % -> 0 0 598 9 5
 '''
 LONG = [r'read room 100 comment with %d x: %%;%s\r\n -> %s' % (x, 'x' * x, said) for x, said in ((249, '0 0 12'), (250, '3 3 0 0 0 0 0'))]
 LONG += ['explain version 12 number 1: 1) 0.000 1 Rx 0123 %d%s -> %s' % (n, ' ' * 232, said) for n, said in ((0, '30 0 0 0'), (9, '0 0 1 6'))]
