@@ -414,6 +414,27 @@ export start 3160987200000 channel 0 bytes 60 room 300: % -> 0 0 161 3 0 29.02.2
 export start 3160987200000 channel 0 bytes 140 room 300: % -> 0 0 132 3 4 29.02.2000 12:00:00.0000 CAN #0 | Rx 123 0\r\n29.02.2000 12:00:00.0002 CAN #1 | Rx 123 0\r\n29.02.2000 12:00:00.0006 CAN #0 | Tx 123 0\r\n untouched
 export start 0 channel 10 bytes 280 room 597 own 0 of bus 0: % -> 25 0 untouched
 export start 0 channel 10 bytes 280 room 598 own 0 of bus 0: % -> 0 0 598 9 5
+export start 0 channel 16 bytes 0 room 0: 0 0 0 0 x123 -> 0 0 0 0 0  untouched
+export start 0 channel 17 bytes 0 room 0: 0 0 0 0 x123 -> 35 0 untouched
+export start 0 channel 16 bytes 80 room 0: 0 0 2 0 x124 3;0 0 3 1 x124 3;0 0 4 0 0 4 x0000000800000000;0 0 5 0 8 4 x0019080000000000 -> 0 0 0 0 4  untouched
+export start 0 channel 17 bytes 80 room 0: 0 0 2 0 x124 3;0 0 3 1 x124 3;0 0 4 0 0 4 x0000000800000000;0 0 5 0 8 4 x0019080000000000 -> 35 0 untouched
+export start 0 channel 32 bytes 20 room 300: 0 0 0 0 x123 -> 35 0 untouched
+export start 0 channel 256 bytes 20 room 300: 0 0 0 0 x123 -> 35 0 untouched
+export start 0 channel 4294967296 bytes 20 room 300: 0 0 0 0 x123 -> 35 0 untouched
+export start 0 channel 4294967297 bytes 20 room 300: 0 1 0 0 x123 -> 35 0 untouched
+export start 0 channel x8000000000000000 bytes 20 room 300: 0 0 0 0 x123 -> 35 0 untouched
+export start 0 channel xFFFFFFFFFFFFFFFF bytes 0 room 0: 0 0 0 0 x123 -> 35 0 untouched
+export start 8640000000000 channel 17 bytes 59 room 133 own 2: %|1000 1 1 0 x124 0 0 1 -> 20 0 untouched
+export start 8640000000000 channel 17 bytes 60 room 133 own 2: %|1000 1 1 0 x124 0 0 1 -> 22 0 untouched
+export start 8639999999999 channel 17 bytes 60 room 133 own 2: %|1000 1 1 0 x124 0 0 1 -> 35 0 untouched
+export start 8639999999999 channel 16 bytes 60 room 133 own 2: %|1000 1 1 0 x124 0 0 1 -> 23 2 untouched
+export start 8639999999999 channel 16 bytes 60 room 133 own 0: % -> 25 0 untouched
+export start 8639999999999 channel 16 bytes 60 room 134 own 0: % -> 0 0 134 3 0 13.10.2173 23:59:59.9990 CAN #16 | Rx 123 0\r\n14.10.2173 00:00:00.0000 CAN #1 | Tx 124 0\r\n14.10.2173 00:00:00.0010 CAN #16 | Rx 125 0\r\n untouched
+export start 0 channel 9 bytes 20 room 43: 0 0 0 0 x123 -> 25 0 untouched
+export start 0 channel 9 bytes 20 room 44: 0 0 0 0 x123 -> 0 0 44 1 0 30.12.1899 00:00:00.0000 CAN #9 | Rx 123 0\r\n untouched
+export start 0 channel 10 bytes 20 room 44: 0 0 0 0 x123 -> 25 0 untouched
+export start 0 channel 10 bytes 20 room 45: 0 0 0 0 x123 -> 0 0 45 1 0 30.12.1899 00:00:00.0000 CAN #10 | Rx 123 0\r\n untouched
+export start 8639999999999 channel 16 bytes 20 room 85: 281474976710655 0 1 1 x1FFFFFFF 8 xFFFFFFFFFFFFFFFF -> 25 0 untouched
 '''
 LONG = [r'read room 100 comment with %d x: %%;%s\r\n -> %s' % (x, 'x' * x, said) for x, said in ((249, '0 0 12'), (250, '3 3 0 0 0 0 0'))]
 LONG += ['explain version 12 number 1: 1) 0.000 1 Rx 0123 %d%s -> %s' % (n, ' ' * 232, said) for n, said in ((0, '30 0 0 0'), (9, '0 0 1 6'))]
