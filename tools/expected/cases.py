@@ -435,6 +435,31 @@ export start 0 channel 9 bytes 20 room 44: 0 0 0 0 x123 -> 0 0 44 1 0 30.12.1899
 export start 0 channel 10 bytes 20 room 44: 0 0 0 0 x123 -> 25 0 untouched
 export start 0 channel 10 bytes 20 room 45: 0 0 0 0 x123 -> 0 0 45 1 0 30.12.1899 00:00:00.0000 CAN #10 | Rx 123 0\r\n untouched
 export start 8639999999999 channel 16 bytes 20 room 85: 281474976710655 0 1 1 x1FFFFFFF 8 xFFFFFFFFFFFFFFFF -> 25 0 untouched
+ascii room 100 channel 0, extended: % CANExt #0 | EXTENDED Rx 00000123 0\r\n -> 0 0 3160987200000 1 000000000000008000048c000000000000000000 untouched
+ascii room 20 channel 0, Tx: % CAN #0 | Tx 7FF 2 0A ff\n -> 0 0 3160987200000 1 0000000000000100001ffc82bfc0000000000000 untouched
+ascii room 100 channel 0 with a zero before: % CAN #00 | Rx 123 0\r\n -> 31 1 0 0 untouched
+ascii room 100 channel 16 with a zero before: % CAN #016 | Rx 123 0\r\n -> 31 1 0 0 untouched
+ascii room 100 channel of 0 zeros: % CAN # | Rx 123 0\r\n -> 31 1 0 0 untouched
+ascii room 100 channel of 1 zeros, extended: % CANExt #0 | EXTENDED Rx 00000123 0\r\n -> 0 0 3160987200000 1 000000000000008000048c000000000000000000 untouched
+ascii room 100 channel of 2 zeros, extended: % CANExt #00 | EXTENDED Rx 00000123 0\r\n -> 31 1 0 0 untouched
+ascii room 100 channel 0 behind 1 blanks: % CAN # 0 | Rx 123 0\r\n -> 31 1 0 0 untouched
+ascii room 100 channel 0 and 0 blanks before the bar: % CAN #0| Rx 123 0\r\n -> 31 1 0 0 untouched
+ascii room 100 channel 0 and 2 blanks before the bar: % CAN #0  | Rx 123 0\r\n -> 0 0 3160987200000 1 000000000000000000048c000000000000000000 untouched
+ascii room 100 channels 0, 1, 0 and 16: % CAN #0 | Rx 123 0\n% CAN #1 | Rx 123 0\n% CAN #0 | Rx 123 0\n% CAN #16 | Rx 123 0\n -> 0 0 3160987200000 4 000000000000000000048c000000000000000000000000000000080000048c000000000000000000000000000000000000048c000000000000000000000000000000800000048c000000000000000000 untouched
+ascii room 100 channel 17 behind channel 0: % CAN #0 | Rx 123 0\n% CAN #17 | Rx 123 0\n -> 31 2 0 0 untouched
+return room 300 channel 0 line of channel 0: % CAN #0 | Rx 123 0\r\n -> 0 0 44 1 0 29.02.2000 12:00:00.0000 CAN #0 | Rx 123 0\r\n untouched 0 0 3160987200000 1 000000000000000000048c000000000000000000 untouched
+return room 300 channel 0 line of channel 16: % CAN #16 | Rx 123 0\r\n -> 0 0 45 1 0 29.02.2000 12:00:00.0000 CAN #16 | Rx 123 0\r\n untouched 0 0 3160987200000 1 000000000000800000048c000000000000000000 untouched
+return room 300 channel 0 line of channel 17: % CAN #17 | Rx 123 0\r\n -> none
+return room 300 channel 5 line of channel 0: % CAN #0 | Rx 123 0\r\n -> 0 0 44 1 0 29.02.2000 12:00:00.0000 CAN #5 | Rx 123 0\r\n untouched 0 0 3160987200000 1 000000000000280000048c000000000000000000 untouched
+return room 300 channel 16 line of channel 0: % CAN #0 | Rx 123 0\r\n -> 0 0 45 1 0 29.02.2000 12:00:00.0000 CAN #16 | Rx 123 0\r\n untouched 0 0 3160987200000 1 000000000000800000048c000000000000000000 untouched
+return room 300 channel 17 line of channel 0: % CAN #0 | Rx 123 0\r\n -> 35 0 untouched
+return room 300 channel 5 line of channel 1: % CAN #1 | Rx 123 0\r\n -> 0 0 44 1 0 29.02.2000 12:00:00.0000 CAN #1 | Rx 123 0\r\n untouched 0 0 3160987200000 1 000000000000080000048c000000000000000000 untouched
+return room 300 channel 17 line of channel 1: % CAN #1 | Rx 123 0\r\n -> 35 0 untouched
+return room 300 channel 0 lines of channels 0, 1 and 0: % CAN #0 | Rx 123 0\n% CAN #1 | Tx 7FF 0\n% CANExt #0 | EXTENDED Rx 00000123 1 aB\n -> 0 0 152 3 0 29.02.2000 12:00:00.0000 CAN #0 | Rx 123 0\r\n29.02.2000 12:00:00.0000 CAN #1 | Tx 7ff 0\r\n29.02.2000 12:00:00.0000 CANExt #0 | EXTENDED Rx 00000123 1 ab\r\n untouched 0 0 3160987200000 3 000000000000000000048c0000000000000000000000000000000900001ffc000000000000000000000000000000008000048c6ac000000000000000 untouched
+return room 300 channel 1 lines of channels 0, 1 and 0: % CAN #0 | Rx 123 0\n% CAN #1 | Tx 7FF 0\n% CANExt #0 | EXTENDED Rx 00000123 1 aB\n -> 0 0 152 3 0 29.02.2000 12:00:00.0000 CAN #1 | Rx 123 0\r\n29.02.2000 12:00:00.0000 CAN #1 | Tx 7ff 0\r\n29.02.2000 12:00:00.0000 CANExt #1 | EXTENDED Rx 00000123 1 ab\r\n untouched 0 0 3160987200000 3 000000000000080000048c0000000000000000000000000000000900001ffc000000000000000000000000000000088000048c6ac000000000000000 untouched
+return room 0 channel 16 no lines:  -> 0 0 0 0 0  untouched 0 0 0 0  untouched
+return room 0 channel 17 no lines:  -> 35 0 untouched
+return room 300 channel 17 refused: x\r\n -> none
 '''
 LONG = [r'read room 100 comment with %d x: %%;%s\r\n -> %s' % (x, 'x' * x, said) for x, said in ((249, '0 0 12'), (250, '3 3 0 0 0 0 0'))]
 LONG += ['explain version 12 number 1: 1) 0.000 1 Rx 0123 %d%s -> %s' % (n, ' ' * 232, said) for n, said in ((0, '30 0 0 0'), (9, '0 0 1 6'))]
