@@ -53,6 +53,13 @@
  * or 8, length 4, a first byte of 0 (sending) or 1 (receiving) and as second byte a position in the bit stream: 2 to 15,
  * 17, 18, 19, 23 to 28. Its third and fourth byte are the error counters.
  *
+ * CHANNELS
+ *
+ * A line of Telemotive ASCII has a channel, 0 to 16. Bus 1 to 16 is written as the channel of its number. Bus 0, which
+ * means none, is written as the channel that the caller gives to bo_export. Read back, each channel is the bus of its
+ * number, channel 0 among them. So what was exported with channel 0 for bus 0 comes back on its bus; with another one,
+ * bus 0 comes back as the bus of that number.
+ *
  * REFUSALS
  *
  *   no.  place   given exactly when                                                     by
@@ -71,6 +78,7 @@
  *   22   0       the start is above 8,639,999,999,999                                   bo_write, bo_export
  *   26   0       the first number is 0 with records, or not 0 without, or the last      bo_write
  *                row's would be above 999,999
+ *   35   0       the channel of bus 0 is above 16, also where no record has bus 0       bo_export
  *   23   record  the first record that is not well formed                               bo_write, bo_export
  *        1       the record is not well formed                                          bo_unpack, bo_pack
  *   24   record  the first record that the version can't carry: 11 needs bus 0 and      bo_write
@@ -89,7 +97,7 @@
  * Of several, bo_read gives 1 first, then that of the earliest line (on one line 2, then 3, then the rest), and 8 last.
  * bo_read_ascii gives 1 first, then that of the earliest line (on one line 31, then 32 or 33), then 34, and 8 last: a
  * wrong line comes before 34, even behind 999,999 good ones. The others give the one that stands first in this table,
- * in which 26 comes before 23; bo_write tests all records for 23 before any for 24.
+ * in which 26 and 35 come before 23; bo_write tests all records for 23 before any for 24.
  * docs/FORMAT.md says what a row, a comment and the first two lines are, and what a line of Telemotive ASCII is.
  */
 #ifndef BUSHINGOWL_H
@@ -103,8 +111,9 @@ extern "C" {
 #endif
 
 /* The state of this interface: one more whenever a function is added, or its parameters or answer change. 2 added
- * bo_explain; 3 gave bo_read and bo_write the first number; 4 added bo_read_ascii. */
-#define BUSHINGOWL_API 4
+ * bo_explain; 3 gave bo_read and bo_write the first number; 4 added bo_read_ascii; 5 gave bo_export the channel of
+ * bus 0. */
+#define BUSHINGOWL_API 5
 
 /* The kinds of a record. Only data frames give a line of an export. */
 #define BUSHINGOWL_DATA_RECEIVED 0
@@ -155,6 +164,16 @@ extern "C" {
  * In a row it is `281474976710.655`; version 1.1 goes up to `281474976710.6`. */
 #define BUSHINGOWL_MOST_OFFSET (((uint64_t)1 << 48) - 1)
 
+/* The last channel, which is that of the last bus. */
+#define BUSHINGOWL_MOST_CHANNEL 16
+
+/* Two channels to give to bo_export for bus 0; any other up to BUSHINGOWL_MOST_CHANNEL will do as well.
+ * As channel 0, so that each bus is the channel of its number: what is exported so comes back on its bus, and what came
+ * back is exported with the channels that it had. */
+#define BUSHINGOWL_CHANNEL_AS_BUS 0
+/* As channel 1, as the bench program (./bushingowl) prints it. It comes back as bus 1. */
+#define BUSHINGOWL_CHANNEL_AS_BENCH 1
+
 /* Reads a trace text into packed records.
  * out: BUSHINGOWL_RECORD bytes for each row; text_len / BUSHINGOWL_LEAST_ROW * BUSHINGOWL_RECORD bytes are enough for
  *   any text, and so are BUSHINGOWL_MOST_ROWS * BUSHINGOWL_RECORD.
@@ -176,21 +195,27 @@ void bo_write(uint32_t version, uint64_t start, uint64_t first, const uint8_t *r
               uint8_t *out, size_t out_len, uint64_t answer[3]);
 
 /* Exports the data frames among packed records as lines of Telemotive ASCII; the other records are left out. A stamp is
- * cut to 100 microseconds, and bus 0 is written as channel 1.
+ * cut to 100 microseconds.
+ * channel: the channel that bus 0 is written as, 0 to 16, such as BUSHINGOWL_CHANNEL_AS_BUS or
+ *   BUSHINGOWL_CHANNEL_AS_BENCH; every other bus is written as the channel of its number. Two loggers whose records
+ *   have no bus look like one, unless each is exported with a channel of its own.
  * out: records_len / BUSHINGOWL_RECORD * BUSHINGOWL_MOST_LINE bytes are enough.
  * answer: number, place (a record), bytes written, lines, records left out.
- * Refusals: 20, 22, 23, 25. */
-void bo_export(uint64_t start, const uint8_t *records, size_t records_len, uint8_t *out, size_t out_len, uint64_t answer[5]);
+ * Refusals: 20, 22, 35, 23, 25, in this order. */
+void bo_export(uint64_t start, uint64_t channel, const uint8_t *records, size_t records_len,
+               uint8_t *out, size_t out_len, uint64_t answer[5]);
 
 /* Reads lines of Telemotive ASCII, as bo_export gives them and as they come back edited, into a start and packed
- * records. bo_export of these gives the lines back in its own spelling: with the same stamps, directions, IDs, channels
- * and bytes, one blank between two parts, small letters and CR LF.
+ * records. bo_export of these, with BUSHINGOWL_CHANNEL_AS_BUS as the channel of bus 0, gives the lines back in its own
+ * spelling: with the same stamps, directions, IDs, channels and bytes, one blank between two parts, small letters and
+ * CR LF.
  * text: lines, each ended by CR LF or by LF, with at most 250 bytes before that and no other CR. A line has the parts
  *   that bo_export writes, as `29.02.2000 12:00:00.0000 CAN #1 | Rx 123 2 0a ff` and
  *   `29.02.2000 12:00:01.5002 CANExt #2 | EXTENDED Tx 18ab0001 0` have, with one blank (byte 32 only) or more between
  *   two and none at the ends of the line. Hexadecimal letters may be capital or small; all else is spelled as there.
  *   The date exists and lies from 30.12.1899 to 13.10.2173, which is day 99,999; the time lies from 00:00:00.0000 to
- *   23:59:59.9999; the channel is 1 to 16 without a leading zero; behind the length, 0 to 8, stand just as many bytes.
+ *   23:59:59.9999; the channel is #0 to #16 without a leading zero; behind the length, 0 to 8, stand just as many
+ *   bytes.
  *   An empty line is no such line. An empty text is good, and gives start 0 and no records.
  * out: BUSHINGOWL_RECORD bytes for each line; text_len / BUSHINGOWL_LEAST_LINE * BUSHINGOWL_RECORD bytes are enough for
  *   any text, and so are BUSHINGOWL_MOST_ROWS * BUSHINGOWL_RECORD. With a refusal all of it holds what it held before.
@@ -199,9 +224,12 @@ void bo_export(uint64_t start, const uint8_t *records, size_t records_len, uint8
  *   start, in microseconds; so that of the first record is 0 to 900. Stamps may go back from line to line, and records
  *   stay in the order of the lines, as long as no stamp lies before the start. One that lies before line 1 by at most
  *   0.9 milliseconds may still lie at the start or behind it.
- *   The kind of a record is 0 for Rx and 1 for Tx, and its bus is the channel. bo_export writes bus 0 as channel 1, so
- *   that it comes back as bus 1. What an export leaves out or cuts off does not come back: records of other kinds,
- *   microseconds below 100, the start of the trace. Version 12 carries all records that come back.
+ *   The kind of a record is 0 for Rx and 1 for Tx, and its bus is the channel; channel 0 is bus 0. What bo_export wrote
+ *   for bus 0 comes back as the bus of the channel that was given: exported with BUSHINGOWL_CHANNEL_AS_BENCH, as bus 1.
+ *   What an export leaves out or cuts off does not come back: records of other kinds, microseconds below 100, the start
+ *   of the trace.
+ *   bo_write takes records of channel 1 to 16 in version 12, and those of channel 0 in version 11, since all offsets
+ *   here are whole 100 microseconds. Where a text has lines of both, no version carries all its records (24).
  * Refusals: 1, 31 to 34 and 8, in this order. Of what bo_export gives only these are refused: a stamp past day 99,999
  *   (31), and one before the start, where the records step back to before the first line (32). */
 void bo_read_ascii(const uint8_t *text, size_t text_len, uint8_t *out, size_t out_len, uint64_t answer[4]);
