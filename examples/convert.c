@@ -207,7 +207,7 @@ static int put_text(const uint8_t *text, size_t len, int *status)
     rows = (size_t)read[4];
     uint8_t *lines = room(rows * BUSHINGOWL_MOST_LINE);
     uint64_t exported[5];
-    bo_export(read[3], records, rows * BUSHINGOWL_RECORD, lines, rows * BUSHINGOWL_MOST_LINE, exported);
+    bo_export(read[3], BUSHINGOWL_CHANNEL_AS_BENCH, records, rows * BUSHINGOWL_RECORD, lines, rows * BUSHINGOWL_MOST_LINE, exported);
     free(records);
     /* Records just read are not refused. */
     *status = exported[0] == 0 ? 0 : 1;
@@ -343,7 +343,7 @@ static int put_ascii(const uint8_t *text, size_t len, int *status)
     lines = (size_t)read[3];
     uint8_t *spelled = room(lines * BUSHINGOWL_MOST_LINE);
     uint64_t exported[5];
-    bo_export(read[2], records, lines * BUSHINGOWL_RECORD, spelled, lines * BUSHINGOWL_MOST_LINE, exported);
+    bo_export(read[2], BUSHINGOWL_CHANNEL_AS_BUS, records, lines * BUSHINGOWL_RECORD, spelled, lines * BUSHINGOWL_MOST_LINE, exported);
     free(records);
     /* Records just read are not refused. */
     *status = exported[0] == 0 ? 0 : 1;

@@ -5,8 +5,8 @@
 //! Ends with 0 if the trace or the lines were exported, 1 if they were refused, and 2 if it could not be done.
 
 use bushingowl::{
-    explain_refusal, export_to_vec, read_ascii_to_vec, read_to_vec, Reason, Refused, MOST_OFFSET,
-    MOST_ROWS, MOST_TEXT,
+    explain_refusal, export_to_vec, read_ascii_to_vec, read_to_vec, Reason, Refused,
+    CHANNEL_AS_BENCH, CHANNEL_AS_BUS, MOST_OFFSET, MOST_ROWS, MOST_TEXT,
 };
 use std::ffi::{OsStr, OsString};
 use std::fs::File;
@@ -56,7 +56,7 @@ fn contents(name: &OsStr) -> io::Result<Vec<u8>> {
 /// What is printed for a good trace.
 fn convert(text: &[u8]) -> Result<Vec<u8>, Refused> {
     let (trace, records) = read_to_vec(text)?;
-    let (_, lines) = export_to_vec(trace.start, &records)?;
+    let (_, lines) = export_to_vec(trace.start, CHANNEL_AS_BENCH, &records)?;
     let (version, start, rows, first) = (trace.version, trace.start, trace.rows, trace.first);
     let numbered = match rows {
         0 => String::new(),
@@ -83,7 +83,7 @@ fn refusal(text: &[u8], refused: Refused) -> Vec<u8> {
 /// What is printed for good lines of Telemotive ASCII: the same lines, as an export has them.
 fn respell(text: &[u8]) -> Result<Vec<u8>, Refused> {
     let (back, records) = read_ascii_to_vec(text)?;
-    let (_, lines) = export_to_vec(back.start, &records)?;
+    let (_, lines) = export_to_vec(back.start, CHANNEL_AS_BUS, &records)?;
     Ok(lines)
 }
 

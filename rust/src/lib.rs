@@ -18,6 +18,11 @@
 //! of the trace, and not of its records: reading gives it ([`Read::first`]), and writing is given it. [`Read::write`] and
 //! [`Read::write_to_vec`] pass it on from one to the other.
 //!
+//! A line of Telemotive ASCII has a channel, 0 to [`MOST_CHANNEL`]. Bus 1 to 16 is exported as the channel of its number,
+//! and bus 0, which means none, as the channel that the caller gives: [`CHANNEL_AS_BENCH`], or another one to tell two
+//! loggers apart. Read back, each channel is the bus of its number. [`CHANNEL_AS_BUS`] is for what is to come back as it
+//! was, or has come back.
+//!
 //! ```
 //! let text = b";$FILEVERSION=1.1\r\n;$STARTTIME=36585.5\r\n1) 2.5 Rx 07FF 1 0a\r\n";
 //! let (trace, records) = bushingowl::read_to_vec(text)?;
@@ -25,7 +30,7 @@
 //! for record in records.chunks(bushingowl::RECORD) {
 //!     assert_eq!(bushingowl::unpack(record)?.offset, 2500);
 //! }
-//! let (_, lines) = bushingowl::export_to_vec(trace.start, &records)?;
+//! let (_, lines) = bushingowl::export_to_vec(trace.start, bushingowl::CHANNEL_AS_BENCH, &records)?;
 //! assert_eq!(lines, b"29.02.2000 12:00:00.0025 CAN #1 | Rx 7ff 1 0a\r\n");
 //! # Ok::<(), bushingowl::Refused>(())
 //! ```
@@ -71,11 +76,12 @@ pub const MOST_START: u64 = 8_639_999_999_999;
 /// The largest offset, which fills its 48 bits of a packed record: almost nine years. In a row it is `281474976710.655`;
 /// version 1.1 goes up to `281474976710.6`.
 pub const MOST_OFFSET: u64 = 281_474_976_710_655;
-/// The last channel, which is that of the last bus.
+/// The last channel, which is that of the last bus, and so the last that [`export`] takes for bus 0.
 pub const MOST_CHANNEL: u64 = 16;
-/// Exports bus 0 as channel 0, so each bus as the channel of its number: what is exported so comes back on its bus.
+/// For [`export`]: bus 0 as channel 0, so that each bus is the channel of its number. What is exported so comes back on
+/// its bus, and what [`read_ascii`] gave is exported with the channels that it had.
 pub const CHANNEL_AS_BUS: u64 = 0;
-/// Exports bus 0 as channel 1, as the bench program prints it. It comes back as bus 1.
+/// For [`export`]: bus 0 as channel 1, as the bench program (`./bushingowl`) prints it. It comes back as bus 1.
 pub const CHANNEL_AS_BENCH: u64 = 1;
 
 /// What a text holds beside its records.
@@ -243,17 +249,20 @@ pub fn write_to_vec(
 }
 
 /// Exports the data frames among packed records as lines of Telemotive ASCII; the other records are left out. A stamp
-/// is cut to 100 microseconds, and bus 0 is written as channel 1. `records.len() / RECORD * MOST_LINE` bytes are enough.
+/// is cut to 100 microseconds. `records.len() / RECORD * MOST_LINE` bytes are enough.
 ///
-/// Refused with the numbers 20, 22, 23 and 25, the lowest that applies.
+/// Bus 0 is written as the channel that is given, at most [`MOST_CHANNEL`], and every other bus as the channel of its
+/// number. Two loggers whose records have no bus look like one, unless each is exported with a channel of its own.
+///
+/// Refused with the numbers 20, 22, 35, 23 and 25: of several the first in this order.
 ///
 /// ```
-/// use bushingowl::{export, pack, Kind, Record, MOST_LINE, RECORD};
+/// use bushingowl::{export, pack, Kind, Record, CHANNEL_AS_BENCH, MOST_LINE, RECORD};
 /// let frame = Record { offset: 1_500_250, bus: 2, kind: Kind::DataSent, extended: true, id: 0x18AB_0001, length: 0, data: [0; 8] };
 /// let mut record = [0; RECORD];
 /// pack(&frame, &mut record)?;
 /// let mut lines = [0; MOST_LINE];
-/// let exported = export(3_160_987_200_000, &record, &mut lines)?;
+/// let exported = export(3_160_987_200_000, CHANNEL_AS_BENCH, &record, &mut lines)?;
 /// assert_eq!((exported.lines, exported.left_out), (1, 0));
 /// assert_eq!(&lines[..exported.bytes], b"29.02.2000 12:00:01.5002 CANExt #2 | EXTENDED Tx 18ab0001 0\r\n");
 /// # Ok::<(), bushingowl::Refused>(())
@@ -278,8 +287,15 @@ pub fn export(
 /// Refused as [`export`] is, but never for room.
 ///
 /// ```
-/// let (exported, lines) = bushingowl::export_to_vec(0, &[])?;
-/// assert_eq!((exported.lines, lines.len()), (0, 0));
+/// use bushingowl::{export_to_vec, read_to_vec, Reason, CHANNEL_AS_BENCH, CHANNEL_AS_BUS, MOST_CHANNEL};
+/// // A trace of version 1.1 has no bus.
+/// let (trace, records) = read_to_vec(b";$FILEVERSION=1.1\r\n;$STARTTIME=36585.5\r\n1) 2.5 Rx 07FF 0\r\n")?;
+/// let as_channel = |channel| export_to_vec(trace.start, channel, &records).map(|(_, lines)| lines);
+/// assert_eq!(as_channel(CHANNEL_AS_BENCH)?, b"29.02.2000 12:00:00.0025 CAN #1 | Rx 7ff 0\r\n");
+/// assert_eq!(as_channel(CHANNEL_AS_BUS)?, b"29.02.2000 12:00:00.0025 CAN #0 | Rx 7ff 0\r\n");
+/// // That of another logger.
+/// assert_eq!(as_channel(7)?, b"29.02.2000 12:00:00.0025 CAN #7 | Rx 7ff 0\r\n");
+/// assert_eq!(as_channel(MOST_CHANNEL + 1).unwrap_err().reason, Reason::NoChannel);
 /// # Ok::<(), bushingowl::Refused>(())
 /// ```
 pub fn export_to_vec(
@@ -298,23 +314,26 @@ pub fn export_to_vec(
 /// `MOST_ROWS * RECORD`.
 ///
 /// Between two parts of a line stands one blank or more, hexadecimal letters may be capital or small, and a line may end
-/// with CR LF or LF. [`export`] with the start that is handed out gives the lines back in its own spelling, with the same
-/// stamps, directions, IDs, channels and bytes.
+/// with CR LF or LF. [`export`] with the start that is handed out and [`CHANNEL_AS_BUS`] gives the lines back in its own
+/// spelling, with the same stamps, directions, IDs, channels and bytes.
 ///
 /// The start is the stamp of the first line, cut to the millisecond, and offsets count from it. Stamps may go back from
-/// line to line, but not to before the start. The bus is the channel, so that bus 0, which is exported as channel 1,
-/// comes back as bus 1. What an export leaves out or cuts off does not come back.
+/// line to line, but not to before the start. The bus is the channel, 0 to 16, and channel 0 is bus 0. So bus 0, exported
+/// with [`CHANNEL_AS_BENCH`], comes back as bus 1. What an export leaves out or cuts off does not come back.
+///
+/// Version 1.2 carries the records of channels 1 to 16, and version 1.1 those of channel 0, since all offsets here are
+/// whole 100 microseconds. Where a text has lines of both, no version carries all its records.
 ///
 /// Refused with the numbers 1, 31 to 34 and 8: 1 first, then that of the earliest line (31 to 33), then 34, 8 last.
 ///
 /// ```
-/// use bushingowl::{export_to_vec, read_ascii, RECORD};
-/// let edited = b"29.02.2000  12:00:00.0009 CAN #1 |  Rx 7FF 2 0A ff\n29.02.2000 12:00:01.5002 CAN #2 | Tx 124 0\r\n";
+/// use bushingowl::{export_to_vec, read_ascii, CHANNEL_AS_BUS, RECORD};
+/// let edited = b"29.02.2000  12:00:00.0009 CAN #0 |  Rx 7FF 2 0A ff\n29.02.2000 12:00:01.5002 CAN #2 | Tx 124 0\r\n";
 /// let mut records = [0; 2 * RECORD];
 /// let back = read_ascii(edited, &mut records)?;
 /// assert_eq!((back.start, back.records), (3_160_987_200_000, 2));
-/// let (_, lines) = export_to_vec(back.start, &records)?;
-/// assert_eq!(lines, b"29.02.2000 12:00:00.0009 CAN #1 | Rx 7ff 2 0a ff\r\n29.02.2000 12:00:01.5002 CAN #2 | Tx 124 0\r\n");
+/// let (_, lines) = export_to_vec(back.start, CHANNEL_AS_BUS, &records)?;
+/// assert_eq!(lines, b"29.02.2000 12:00:00.0009 CAN #0 | Rx 7ff 2 0a ff\r\n29.02.2000 12:00:01.5002 CAN #2 | Tx 124 0\r\n");
 /// # Ok::<(), bushingowl::Refused>(())
 /// ```
 pub fn read_ascii(text: &[u8], out: &mut [u8]) -> Result<ReadAscii, Refused> {
@@ -336,9 +355,12 @@ pub fn read_ascii(text: &[u8], out: &mut [u8]) -> Result<ReadAscii, Refused> {
 /// assert_eq!((back.start, back.records), (3_160_987_201_500, 1));
 /// let frame = unpack(&records)?;
 /// assert_eq!((frame.offset, frame.bus, frame.extended, frame.id), (200, 2, true, 0x18AB_0001));
-/// // Version 1.2 carries all that comes back.
+/// // Version 1.2 carries what comes back on a bus, and version 1.1 what comes back without one.
 /// let trace = write_to_vec(12, back.start, 1, &records)?;
 /// assert!(trace.ends_with(b"\r\n1) 0.200 2 Tx 18AB0001 0\r\n"));
+/// let (back, records) = read_ascii_to_vec(b"29.02.2000 12:00:01.5002 CAN #0 | Rx 123 0\n")?;
+/// let trace = write_to_vec(11, back.start, 1, &records)?;
+/// assert!(trace.ends_with(b"\r\n1) 0.2 Rx 0123 0\r\n"));
 /// // 30 February.
 /// let refused = read_ascii_to_vec(b"30.02.2000 12:00:00.0000 CAN #1 | Rx 123 0\n").unwrap_err();
 /// assert_eq!((refused.number(), refused.place), (31, 1));

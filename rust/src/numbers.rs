@@ -24,7 +24,7 @@ pub fn pack(fields: &[u64; 7], out: &mut [u8]) -> [u64; 2] {
     boundary::pack(fields, out)
 }
 
-/// Number, place, bytes, lines, records left out.
+/// Number, place, bytes, lines, records left out. The channel that is given is that of bus 0.
 pub fn export(start: u64, channel: u64, records: &[u8], out: &mut [u8]) -> [u64; 5] {
     boundary::export(start, channel, records, out)
 }

@@ -1,6 +1,6 @@
 //! Why a call was refused.
 
-use crate::{MOST_OFFSET, MOST_ROWS, MOST_TEXT};
+use crate::{MOST_CHANNEL, MOST_OFFSET, MOST_ROWS, MOST_TEXT};
 use std::error::Error;
 use std::fmt;
 
@@ -52,11 +52,14 @@ pub enum Reason {
     OffsetTooLarge = 33,
     /// All lines are good, and there are more than [`MOST_ROWS`](crate::MOST_ROWS).
     TooManyLines = 34,
+    /// The channel given for bus 0 is above [`MOST_CHANNEL`](crate::MOST_CHANNEL). It is given before 23, and also where
+    /// no record has bus 0.
+    NoChannel = 35,
 }
 
 impl Reason {
     /// The reasons in the order of their numbers.
-    pub const ALL: [Reason; 20] = [
+    pub const ALL: [Reason; 21] = [
         Reason::TextTooLong,
         Reason::LineNotEnded,
         Reason::LineTooLong,
@@ -77,6 +80,7 @@ impl Reason {
         Reason::BeforeStart,
         Reason::OffsetTooLarge,
         Reason::TooManyLines,
+        Reason::NoChannel,
     ];
 
     /// The refusal number.
@@ -143,6 +147,7 @@ impl fmt::Display for Refused {
             Reason::BeforeStart => write!(f, "the stamp of line {place} lies before the start, that of line 1 cut to the millisecond"),
             Reason::OffsetTooLarge => write!(f, "the stamp of line {place} lies more than {offset} microseconds behind the start"),
             Reason::TooManyLines => write!(f, "there are more than {rows} lines"),
+            Reason::NoChannel => write!(f, "the channel of bus 0 is above {MOST_CHANNEL}"),
         }?;
         write!(f, " (refusal {})", self.number())
     }

@@ -1,8 +1,9 @@
 //! The constants of `include/bushingowl.h` are those of this crate, and so are the lengths of its answers.
 
 use bushingowl::{
-    numbers, Kind, RowReason, LEAST_LINE, LEAST_ROW, MOST_HEADER, MOST_LINE, MOST_OFFSET, MOST_ROW,
-    MOST_ROWS, MOST_START, MOST_TEXT, RECORD,
+    numbers, Kind, Reason, RowReason, CHANNEL_AS_BENCH, CHANNEL_AS_BUS, LEAST_LINE, LEAST_ROW,
+    MOST_CHANNEL, MOST_HEADER, MOST_LINE, MOST_OFFSET, MOST_ROW, MOST_ROWS, MOST_START, MOST_TEXT,
+    RECORD,
 };
 
 const HEADER: &str = include_str!("../../include/bushingowl.h");
@@ -43,6 +44,31 @@ fn limits_are_the_same() {
 }
 
 #[test]
+fn channels_are_the_same() {
+    let channels = [
+        ("MOST_CHANNEL", MOST_CHANNEL),
+        ("CHANNEL_AS_BUS", CHANNEL_AS_BUS),
+        ("CHANNEL_AS_BENCH", CHANNEL_AS_BENCH),
+    ];
+    for (name, channel) in channels {
+        assert_eq!(defined(name), channel.to_string(), "{name}");
+    }
+}
+
+#[test]
+fn refusals_are_the_same() {
+    let (_, table) = HEADER.split_once(" * REFUSALS\n").unwrap();
+    let (table, _) = table.split_once(" * Of several, ").unwrap();
+    // The numbers have a column of their own; a line that goes on has none.
+    let column = table.lines().filter_map(|line| line.get(2..7));
+    let mut listed: Vec<u64> = column.filter_map(|no| no.trim().parse().ok()).collect();
+    // They stand in the order in which they are given: 26 and 35 before 23.
+    assert_eq!(listed[8..16], [20, 21, 22, 26, 35, 23, 24, 25]);
+    listed.sort();
+    assert_eq!(listed, Reason::ALL.map(Reason::number));
+}
+
+#[test]
 fn kinds_are_the_same() {
     let kinds = [
         ("DATA_RECEIVED", Kind::DataReceived),
@@ -78,7 +104,7 @@ fn answers_have_as_many_numbers() {
     let lengths = [
         ("read", numbers::read(b"", &mut []).len()),
         ("write", numbers::write(0, 0, 0, b"", &mut []).len()),
-        ("export", numbers::export(0, b"", &mut []).len()),
+        ("export", numbers::export(0, 0, b"", &mut []).len()),
         ("read_ascii", numbers::read_ascii(b"", &mut []).len()),
         ("unpack", numbers::unpack(b"").len()),
         ("pack", numbers::pack(&[0; 7], &mut []).len()),

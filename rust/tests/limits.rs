@@ -1,9 +1,9 @@
 //! The constants are the very limits: what is as large is taken, and one more is not.
 
 use bushingowl::{
-    export_to_vec, pack, read_ascii_to_vec, read_to_vec, unpack, write, write_to_vec, Kind, Reason,
-    Record, LEAST_LINE, LEAST_ROW, MOST_HEADER, MOST_LINE, MOST_OFFSET, MOST_ROW, MOST_ROWS,
-    MOST_START, MOST_TEXT, RECORD,
+    export, export_to_vec, pack, read_ascii_to_vec, read_to_vec, unpack, write, write_to_vec, Kind,
+    Reason, Record, CHANNEL_AS_BENCH, LEAST_LINE, LEAST_ROW, MOST_CHANNEL, MOST_HEADER, MOST_LINE,
+    MOST_OFFSET, MOST_ROW, MOST_ROWS, MOST_START, MOST_TEXT, RECORD,
 };
 
 /// The record with the longest row and the longest line, but for its number.
@@ -136,6 +136,20 @@ fn of_the_longest_row() {
 }
 
 #[test]
+fn of_a_channel() {
+    // On the last channel the line of bus 0 is as long as any.
+    let mut record = [0; RECORD];
+    pack(&Record { bus: 0, ..LONGEST }, &mut record).unwrap();
+    let mut out = [0; MOST_LINE];
+    let exported = export(0, MOST_CHANNEL, &record, &mut out).unwrap();
+    assert_eq!(exported.bytes, out.len());
+    let short = export(0, MOST_CHANNEL, &record, &mut out[1..]).unwrap_err();
+    assert_eq!(short.reason, Reason::NoRoom);
+    let above = export(0, MOST_CHANNEL + 1, &record, &mut out).unwrap_err();
+    assert_eq!(above.reason, Reason::NoChannel);
+}
+
+#[test]
 fn of_rows_and_lines() {
     let mut record = [0; RECORD];
     pack(&LONGEST, &mut record).unwrap();
@@ -148,7 +162,7 @@ fn of_rows_and_lines() {
     assert_eq!((trace.rows, trace.step_back), (MOST_ROWS, None));
     assert_eq!(trace.first, 1);
     assert!(read == records);
-    let (exported, lines) = export_to_vec(MOST_START, &records).unwrap();
+    let (exported, lines) = export_to_vec(MOST_START, CHANNEL_AS_BENCH, &records).unwrap();
     assert_eq!((exported.lines, exported.left_out), (MOST_ROWS, 0));
     assert_eq!(lines.len(), MOST_ROWS * MOST_LINE);
     let next = [text, b"1000000) 0.000 1 Rx 0000 0\r\n".to_vec()].concat();
@@ -157,7 +171,10 @@ fn of_rows_and_lines() {
     records.extend(record);
     let many = write_to_vec(12, 0, 1, &records).unwrap_err();
     assert_eq!(many.reason, Reason::NoRecords);
-    assert_eq!(export_to_vec(0, &records).unwrap_err(), many);
+    assert_eq!(
+        export_to_vec(0, CHANNEL_AS_BENCH, &records).unwrap_err(),
+        many
+    );
 }
 
 #[test]

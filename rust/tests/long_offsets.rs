@@ -1,6 +1,8 @@
 //! Offsets of more than three years, up to the last that 48 bits hold and past it, in the plain numbers of the C boundary.
 
-use bushingowl::{numbers, MOST_LINE, MOST_OFFSET, MOST_START, RECORD};
+use bushingowl::{
+    numbers, CHANNEL_AS_BENCH, CHANNEL_AS_BUS, MOST_LINE, MOST_OFFSET, MOST_START, RECORD,
+};
 
 /// 29 February 2000, noon.
 const START: u64 = 3_160_987_200_000;
@@ -144,7 +146,7 @@ fn the_stamps_of_an_export() {
     for (start, offset, stamp) in cases {
         let line = format!("{stamp} CAN #1 | Rx 123 0\r\n");
         let mut out = [0xEE; MOST_LINE];
-        let answer = numbers::export(start, &packed(1, offset), &mut out);
+        let answer = numbers::export(start, CHANNEL_AS_BENCH, &packed(1, offset), &mut out);
         assert_eq!(answer, [0, 0, line.len() as u64, 1, 0], "{stamp}");
         assert_eq!(out[..line.len()], *line.as_bytes());
     }
@@ -155,7 +157,7 @@ fn an_export_that_comes_back() {
     for offset in [100_000_000_000_000, MOST_OFFSET / 100 * 100] {
         let records = [packed(1, 0), packed(1, offset)].concat();
         let mut lines = [0; 2 * MOST_LINE];
-        let [number, _, bytes, ..] = numbers::export(START, &records, &mut lines);
+        let [number, _, bytes, ..] = numbers::export(START, CHANNEL_AS_BUS, &records, &mut lines);
         assert_eq!(number, 0);
         let mut back = vec![0xEE; records.len()];
         let answer = numbers::read_ascii(&lines[..bytes as usize], &mut back);

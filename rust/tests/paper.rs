@@ -2,7 +2,7 @@
 
 use bushingowl::{
     export, export_to_vec, pack, read, read_to_vec, unpack, write, write_to_vec, Exported, Kind,
-    Read, Record,
+    Read, Record, CHANNEL_AS_BENCH,
 };
 
 const TEXT: &[u8] = b";$FILEVERSION=1.2\r\n\
@@ -79,10 +79,16 @@ fn it_is_written_as_it_was_read() {
 #[test]
 fn it_is_exported() {
     let mut out = [0xEE; 200];
-    assert_eq!(export(START, &records(), &mut out), Ok(GIVEN));
+    assert_eq!(
+        export(START, CHANNEL_AS_BENCH, &records(), &mut out),
+        Ok(GIVEN)
+    );
     assert_begins(&out, LINES);
     let lines = LINES.to_vec();
-    assert_eq!(export_to_vec(START, &records()), Ok((GIVEN, lines)));
+    assert_eq!(
+        export_to_vec(START, CHANNEL_AS_BENCH, &records()),
+        Ok((GIVEN, lines))
+    );
 }
 
 #[test]
@@ -144,8 +150,11 @@ fn nothing_is_fine() {
         lines: 0,
         left_out: 0,
     };
-    assert_eq!(export(START, &[], &mut []), Ok(none));
-    assert_eq!(export_to_vec(START, &[]), Ok((none, vec![])));
+    assert_eq!(export(START, CHANNEL_AS_BENCH, &[], &mut []), Ok(none));
+    assert_eq!(
+        export_to_vec(START, CHANNEL_AS_BENCH, &[]),
+        Ok((none, vec![]))
+    );
     let head = WRITTEN[..49].to_vec();
     assert_eq!(write_to_vec(12, START, 0, &[]), Ok(head.clone()));
     assert_eq!(held.write_to_vec(&[]), Ok(head));

@@ -2,8 +2,8 @@
 
 use bushingowl::{
     export_to_vec, numbers, pack, read_ascii, read_ascii_to_vec, read_to_vec, unpack, write_to_vec,
-    Kind, ReadAscii, Reason, Record, Refused, LEAST_LINE, MOST_OFFSET, MOST_ROWS, MOST_START,
-    MOST_TEXT, RECORD,
+    Kind, ReadAscii, Reason, Record, Refused, CHANNEL_AS_BENCH, CHANNEL_AS_BUS, LEAST_LINE,
+    MOST_OFFSET, MOST_ROWS, MOST_START, MOST_TEXT, RECORD,
 };
 
 const LINES: &str = "29.02.2000 12:00:00.0000 CAN #1 | Rx 123 2 0a ff\r\n\
@@ -40,6 +40,12 @@ fn packed(records: &[Record]) -> Vec<u8> {
         pack(record, out).unwrap();
     }
     all
+}
+
+/// The lines of these records in house spelling, each bus as the channel of its number.
+#[track_caller]
+fn spelled(start: u64, records: &[u8]) -> Vec<u8> {
+    export_to_vec(start, CHANNEL_AS_BUS, records).unwrap().1
 }
 
 fn refused<T>(reason: Reason, place: u64) -> Result<T, Refused> {
@@ -101,14 +107,14 @@ fn the_lines_of_the_paper() {
     let answer = numbers::read_ascii(LINES.as_bytes(), &mut [0; 40]);
     assert_eq!(answer, [0, 0, START, 2]);
     let (back, records) = read_ascii_to_vec(LINES.as_bytes()).unwrap();
-    let (exported, lines) = export_to_vec(back.start, &records).unwrap();
+    let (exported, lines) = export_to_vec(back.start, CHANNEL_AS_BUS, &records).unwrap();
     assert_eq!((exported.lines, exported.left_out), (2, 0));
     assert_eq!(lines, LINES.as_bytes());
 }
 
 #[test]
 fn the_exports_of_the_samples_are_unchanged() {
-    let samples: [(&[u8], u64); 3] = [
+    let samples: [(&[u8], u64); 5] = [
         (include_bytes!("../../samples/small.txt"), START),
         (
             include_bytes!("../../samples/dosing.txt"),
@@ -119,29 +125,58 @@ fn the_exports_of_the_samples_are_unchanged() {
             include_bytes!("../../samples/selection.txt"),
             45_231 * DAY + 36_052_318,
         ),
+        (
+            include_bytes!("../../samples/version-11.txt"),
+            45_231 * DAY + 36_000_018,
+        ),
+        (
+            include_bytes!("../../samples/no-bus.txt"),
+            45_231 * DAY + 36_000_018,
+        ),
     ];
     for (text, start) in samples {
         let (back, records) = read_ascii_to_vec(text).unwrap();
         assert_eq!(back.start, start);
         let lines = text.iter().filter(|byte| **byte == b'\n').count();
         assert_eq!((back.records, records.len()), (lines, lines * RECORD));
-        let again = export_to_vec(back.start, &records).unwrap().1;
+        let again = spelled(back.start, &records);
         assert!(again == text);
     }
 }
 
 #[test]
 fn an_edited_export() {
-    let edited = include_bytes!("../../samples/edited.asc");
-    let house = include_bytes!("../../samples/edited.txt");
-    let (back, records) = read_ascii_to_vec(edited).unwrap();
-    assert_eq!(export_to_vec(back.start, &records).unwrap().1, house);
-    assert_eq!(read_ascii_to_vec(house), Ok((back, records)));
+    let samples: [(&[u8], &[u8]); 2] = [
+        (
+            include_bytes!("../../samples/edited.asc"),
+            include_bytes!("../../samples/edited.txt"),
+        ),
+        (
+            include_bytes!("../../samples/no-bus.asc"),
+            include_bytes!("../../samples/no-bus.txt"),
+        ),
+    ];
+    for (edited, house) in samples {
+        let (back, records) = read_ascii_to_vec(edited).unwrap();
+        assert!(spelled(back.start, &records) == house);
+        assert_eq!(read_ascii_to_vec(house), Ok((back, records)));
+    }
     is_refused(
         include_bytes!("../../samples/no-such-date.asc"),
         Reason::NoAsciiLine,
         3,
     );
+}
+
+#[test]
+fn the_exports_of_a_trace_without_buses() {
+    let trace = include_bytes!("../../samples/version-11.trc");
+    let (read, records) = read_to_vec(trace).unwrap();
+    let lines = |channel| export_to_vec(read.start, channel, &records).unwrap().1;
+    let printed = include_bytes!("../../samples/version-11.txt");
+    assert!(lines(CHANNEL_AS_BENCH) == printed);
+    let own = include_bytes!("../../samples/no-bus.txt");
+    assert!(lines(CHANNEL_AS_BUS) == own);
 }
 
 #[test]
@@ -242,12 +277,13 @@ fn a_line_has_at_most_250_bytes() {
 #[test]
 fn what_each_part_may_be() {
     for (parts, bus) in [
+        ("CAN #0 | Rx 123 2 0a ff", 0),
         ("CAN #1 | Rx 123 2 0a ff", 1),
         ("CAN #9 | Rx 123 2 0a ff", 9),
     ] {
         holds(&with(parts), START, &[Record { bus, ..FIRST }]);
     }
-    for bus in 1..=16 {
+    for bus in 0..=16 {
         let line = with(&format!("CANExt #{bus} | EXTENDED Tx 18ab0001 0"));
         let frame = Record {
             offset: 0,
@@ -356,7 +392,7 @@ fn what_is_no_such_line() {
         "29.02.2000 12:00:00.0000 CAN #1 ; Rx 123 0",
         "29.02.2000 12:00:00.0000 LIN #1 | Rx 123 0",
         // Channels.
-        "29.02.2000 12:00:00.0000 CAN #0 | Rx 123 0",
+        "29.02.2000 12:00:00.0000 CAN #00 | Rx 123 0",
         "29.02.2000 12:00:00.0000 CAN #01 | Rx 123 0",
         "29.02.2000 12:00:00.0000 CAN #17 | Rx 123 0",
         "29.02.2000 12:00:00.0000 CAN #20 | Rx 123 0",
@@ -419,7 +455,7 @@ fn dates_and_times_that_exist() {
             holds(&line, day * DAY + ms, &offsets([offset]));
             // And back.
             let (back, records) = read_ascii_to_vec(line.as_bytes()).unwrap();
-            let lines = export_to_vec(back.start, &records).unwrap().1;
+            let lines = spelled(back.start, &records);
             assert_eq!(lines, line.as_bytes());
         }
     }
@@ -531,7 +567,7 @@ fn stamps_before_the_first_one() {
     let expected = offsets([900, 4_999_000, 0, 4_998_900, 4_998_900]);
     holds(&text, start, &expected);
     let (back, records) = read_ascii_to_vec(text.as_bytes()).unwrap();
-    let lines = export_to_vec(back.start, &records).unwrap().1;
+    let lines = spelled(back.start, &records);
     assert_eq!(lines, text.as_bytes());
 }
 
@@ -625,7 +661,7 @@ fn as_many_lines_as_there_can_be() {
     let answer = read_ascii(text.as_bytes(), short);
     assert_eq!(answer, refused(Reason::NoRoomForRecords, 0));
     assert!(short.iter().all(|byte| *byte == 0xEE));
-    let (_, lines) = export_to_vec(back.start, &records).unwrap();
+    let lines = spelled(back.start, &records);
     assert_eq!(lines.len(), MOST_ROWS * (LEAST_LINE + 1));
     assert!(read_ascii_to_vec(&lines) == Ok((back, records)));
     // A wrong line at the limit and behind it comes before the number of lines.
@@ -689,27 +725,29 @@ fn what_an_export_leaves_out_does_not_come_back() {
         later,
         remote,
     ]);
-    let lines = export_to_vec(START, &records).unwrap().1;
-    let text = String::from_utf8(lines).unwrap();
-    // The start is that of the first line, bus 0 was written as channel 1, and microseconds were cut off.
-    let first = Record { offset: 0, ..FIRST };
-    let second = Record {
-        offset: 1_000_100,
-        bus: 1,
-        ..SECOND
-    };
-    holds(&text, START + 1000, &[first, second]);
+    // The start is that of the first line, bus 0 is the channel that it was written as, and microseconds were cut off.
+    for (channel, bus) in [(CHANNEL_AS_BUS, 0), (CHANNEL_AS_BENCH, 1), (7, 7)] {
+        let lines = export_to_vec(START, channel, &records).unwrap().1;
+        let text = String::from_utf8(lines).unwrap();
+        let first = Record { bus, ..FIRST };
+        let second = Record {
+            offset: 1_000_100,
+            bus,
+            ..SECOND
+        };
+        holds(&text, START + 1000, &[first, second]);
+    }
 }
 
 #[test]
 fn an_export_that_is_refused() {
     // The records step back to before the first line.
     let records = packed(&offsets([5_000_000, 1_000_000]));
-    let lines = export_to_vec(START, &records).unwrap().1;
+    let lines = spelled(START, &records);
     is_refused(&lines, Reason::BeforeStart, 2);
     // The stamp lies past the last day.
     let records = packed(&offsets([0, 1000]));
-    let lines = export_to_vec(MOST_START, &records).unwrap().1;
+    let lines = spelled(MOST_START, &records);
     assert!(lines.ends_with(&at("14.10.2173 00:00:00.0000").into_bytes()));
     is_refused(&lines, Reason::NoAsciiLine, 2);
 }
@@ -748,7 +786,7 @@ fn records_there_and_back() {
                 Record {
                     // That of the first record lies within its millisecond.
                     offset: next(if k == 0 { 10 } else { MOST_OFFSET / 100 }) * 100,
-                    bus: 1 + next(16) as u8,
+                    bus: next(17) as u8,
                     kind: Kind::of(next(2)).unwrap(),
                     extended,
                     id: next(if extended { 0x2000_0000 } else { 0x800 }) as u32,
@@ -757,7 +795,7 @@ fn records_there_and_back() {
                 }
             })
             .collect();
-        let lines = export_to_vec(start, &packed(&records)).unwrap().1;
+        let lines = spelled(start, &packed(&records));
         let house = String::from_utf8(lines).unwrap();
         holds(&house, start, &records);
         // All letters behind the stamps that may be capitals, more blanks, and other ends.

@@ -2,7 +2,7 @@
 
 use bushingowl::{
     export, export_to_vec, numbers, pack, read, read_to_vec, unpack, write, write_to_vec, Kind,
-    Reason, Record, Refused, MOST_START, MOST_TEXT, RECORD,
+    Reason, Record, Refused, CHANNEL_AS_BENCH, MOST_CHANNEL, MOST_START, MOST_TEXT, RECORD,
 };
 
 const HEAD: &str = ";$FILEVERSION=1.2\r\n;$STARTTIME=36585.5\r\n";
@@ -130,16 +130,26 @@ fn of_writing() {
 fn of_exporting() {
     let good = packed(&FRAME);
     let bad = [0xFF; RECORD];
-    let cases: [(u64, Vec<u8>, Reason, u64); 4] = [
-        (u64::MAX, vec![0xFF; 21], Reason::NoRecords, 0),
-        (MOST_START + 1, bad.to_vec(), Reason::StartTooLate, 0),
-        (MOST_START, bad.to_vec(), Reason::NotWellFormed, 1),
-        (0, [good, good, bad].concat(), Reason::NotWellFormed, 3),
+    // Start, channel, records, and what they are refused with. Each of the first ones is wrong in all that comes behind
+    // as well.
+    #[rustfmt::skip]
+    let cases: [(u64, u64, Vec<u8>, Reason, u64); 8] = [
+        (u64::MAX, u64::MAX, vec![0xFF; 21], Reason::NoRecords, 0),
+        (MOST_START + 1, u64::MAX, bad.to_vec(), Reason::StartTooLate, 0),
+        (MOST_START + 1, u64::MAX, vec![], Reason::StartTooLate, 0),
+        (MOST_START, u64::MAX, bad.to_vec(), Reason::NoChannel, 0),
+        (MOST_START, MOST_CHANNEL + 1, good.to_vec(), Reason::NoChannel, 0),
+        (MOST_START, MOST_CHANNEL + 1, vec![], Reason::NoChannel, 0),
+        (MOST_START, MOST_CHANNEL, bad.to_vec(), Reason::NotWellFormed, 1),
+        (0, 0, [good, good, bad].concat(), Reason::NotWellFormed, 3),
     ];
-    for (start, records, reason, place) in cases {
-        let answer = untouched(300, |out| export(start, &records, out));
+    for (start, channel, records, reason, place) in cases {
+        for room in [0, 300] {
+            let answer = untouched(room, |out| export(start, channel, &records, out));
+            assert_eq!(answer, refused(reason, place));
+        }
+        let answer = export_to_vec(start, channel, &records);
         assert_eq!(answer, refused(reason, place));
-        assert_eq!(export_to_vec(start, &records), refused(reason, place));
     }
 }
 
@@ -147,19 +157,22 @@ fn of_exporting() {
 fn of_writing_and_exporting_without_room() {
     let records = [packed(&FRAME), packed(&FRAME)].concat();
     let text = write_to_vec(12, 0, 1, &records).unwrap();
-    let (exported, lines) = export_to_vec(0, &records).unwrap();
+    let (exported, lines) = export_to_vec(0, CHANNEL_AS_BENCH, &records).unwrap();
     assert_eq!(exported.bytes, lines.len());
     for less in [1, 2, 30] {
         let answer = untouched(text.len() - less, |out| write(12, 0, 1, &records, out));
         assert_eq!(answer, refused(Reason::NoRoom, 0));
-        let answer = untouched(lines.len() - less, |out| export(0, &records, out));
+        let answer = untouched(lines.len() - less, |out| {
+            export(0, CHANNEL_AS_BENCH, &records, out)
+        });
         assert_eq!(answer, refused(Reason::NoRoom, 0));
     }
     let mut out = vec![0; text.len()];
     assert_eq!(write(12, 0, 1, &records, &mut out), Ok(text.len()));
     assert_eq!(out, text);
     let mut out = vec![0; lines.len()];
-    assert_eq!(export(0, &records, &mut out), Ok(exported));
+    let answer = export(0, CHANNEL_AS_BENCH, &records, &mut out);
+    assert_eq!(answer, Ok(exported));
     assert_eq!(out, lines);
 }
 
@@ -191,7 +204,8 @@ fn with_zeros_for_all_other_numbers() {
     assert_eq!(answer, [8, 0, 0, 0, 0, 0, 0]);
     assert_eq!(numbers::write(13, 0, 0, &[], &mut []), [21, 0, 0]);
     assert_eq!(numbers::write(12, 0, 1, &[], &mut []), [26, 0, 0]);
-    assert_eq!(numbers::export(0, &[0], &mut []), [20, 0, 0, 0, 0]);
+    assert_eq!(numbers::export(0, 0, &[0], &mut []), [20, 0, 0, 0, 0]);
+    assert_eq!(numbers::export(0, 17, &[], &mut []), [35, 0, 0, 0, 0]);
     assert_eq!(numbers::unpack(&[]), [20, 0, 0, 0, 0, 0, 0, 0, 0]);
     assert_eq!(numbers::pack(&[u64::MAX; 7], &mut [0; 20]), [23, 1]);
     assert_eq!(numbers::pack(&[0; 7], &mut []), [25, 0]);
@@ -258,6 +272,7 @@ fn in_words() {
             "the stamp of line 7 lies more than 281,474,976,710,655 microseconds behind the start (refusal 33)",
         ),
         (34, 0, "there are more than 999,999 lines (refusal 34)"),
+        (35, 0, "the channel of bus 0 is above 16 (refusal 35)"),
     ];
     assert_eq!(cases.len(), Reason::ALL.len());
     for (number, place, words) in cases {
@@ -265,7 +280,7 @@ fn in_words() {
         assert_eq!(reason.number(), number);
         assert_eq!(shown(reason, place), words);
     }
-    for number in [0, 9, 19, 27, 29, 35, u64::MAX] {
+    for number in [0, 9, 19, 27, 29, 36, u64::MAX] {
         assert_eq!(Reason::of(number), None);
     }
 }
