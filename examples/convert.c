@@ -1,6 +1,8 @@
 /* Prints what a trace file holds, and its export: convert FILE; or its refusal, and for a line that is no row what is wrong with it, in words.
- * Reads lines of Telemotive ASCII back, as they return edited: convert --ascii FILE. Prints them as an export has them; or the refusal, and in words
- * what is wrong.
+ * Bus 0 is printed as channel 1, as the bench program prints it, or as channel N: convert --channel N FILE, with N from 0 to 16. So the traces of two
+ * loggers without buses can be told apart.
+ * Reads lines of Telemotive ASCII back, as they return edited: convert --ascii FILE. Prints them as an export has them, with the same channels; or the
+ * refusal, and in words what is wrong.
  * All lines end with CR LF, as those of the export do. A pipe will do as well.
  * Ends with 0 if the trace or the lines were exported, 1 if they were refused, and 2 if it could not be done. */
 #include "bushingowl.h"
@@ -187,8 +189,8 @@ static int put_head(const uint64_t read[7])
     return done && printf(", first step back at row number %" PRIu64 "\r\n", first + back - 1) >= 0;
 }
 
-/* What is printed for a text: status is 0 if it is a trace, and 1 if it is refused. */
-static int put_text(const uint8_t *text, size_t len, int *status)
+/* What is printed for a text, with bus 0 as this channel: status is 0 if it is a trace, and 1 if it or the channel is refused. */
+static int put_text(const uint8_t *text, size_t len, uint64_t channel, int *status)
 {
     size_t rows = len / BUSHINGOWL_LEAST_ROW;
     if (rows > BUSHINGOWL_MOST_ROWS)
@@ -207,11 +209,13 @@ static int put_text(const uint8_t *text, size_t len, int *status)
     rows = (size_t)read[4];
     uint8_t *lines = room(rows * BUSHINGOWL_MOST_LINE);
     uint64_t exported[5];
-    bo_export(read[3], BUSHINGOWL_CHANNEL_AS_BENCH, records, rows * BUSHINGOWL_RECORD, lines, rows * BUSHINGOWL_MOST_LINE, exported);
+    bo_export(read[3], channel, records, rows * BUSHINGOWL_RECORD, lines, rows * BUSHINGOWL_MOST_LINE, exported);
     free(records);
-    /* Records just read are not refused. */
+    /* Records just read are not refused, but the channel may be. */
     *status = exported[0] == 0 ? 0 : 1;
     int done = *status == 0 ? put_head(read) && put(lines, (size_t)exported[2]) : put_refusal(exported[0], exported[1]);
+    if (exported[0] == 35)
+        done = done && printf("the channel of bus 0 is above %d\r\n", BUSHINGOWL_MOST_CHANNEL) >= 0;
     free(lines);
     return done;
 }
@@ -352,11 +356,24 @@ static int put_ascii(const uint8_t *text, size_t len, int *status)
     return done;
 }
 
+/* Whether a word is a number in decimal, which goes to `channel`; of one above the last channel, as many digits as it takes to be above. */
+static int is_channel(const char *word, uint64_t *channel)
+{
+    uint64_t number = 0;
+    size_t digits = strspn(word, "0123456789");
+    for (size_t i = 0; i < digits && number <= BUSHINGOWL_MOST_CHANNEL; i++)
+        number = 10 * number + (uint64_t)(word[i] - '0');
+    *channel = number;
+    return digits > 0 && word[digits] == 0;
+}
+
 int main(int argc, char **argv)
 {
-    int option = argc > 1 && strcmp(argv[1], "--ascii") == 0;
-    if (argc != (option ? 3 : 2)) {
-        fputs("usage: convert FILE, or convert --ascii FILE\n", stderr);
+    uint64_t channel = BUSHINGOWL_CHANNEL_AS_BENCH;
+    int ascii = argc > 1 && strcmp(argv[1], "--ascii") == 0;
+    int given = argc > 1 && strcmp(argv[1], "--channel") == 0;
+    if (argc != (given ? 4 : ascii ? 3 : 2) || (given && !is_channel(argv[2], &channel))) {
+        fputs("usage: convert FILE, or convert --channel N FILE, or convert --ascii FILE\n", stderr);
         return 2;
     }
 #ifdef SIGPIPE
@@ -365,7 +382,7 @@ int main(int argc, char **argv)
     size_t len = 0;
     uint8_t *text = contents(argv[argc - 1], &len);
     int status;
-    int done = (option ? put_ascii(text, len, &status) : put_text(text, len, &status)) && fflush(stdout) == 0;
+    int done = (ascii ? put_ascii(text, len, &status) : put_text(text, len, channel, &status)) && fflush(stdout) == 0;
     /* A reader that closes early has what it wants. */
     if (!done && errno != EPIPE) {
         fprintf(stderr, "convert: can't write: %s\n", strerror(errno));

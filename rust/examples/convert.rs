@@ -1,12 +1,14 @@
 //! Prints what a trace file holds, and its export: `convert FILE`; or its refusal, and for a line that is no row what is wrong with it, in words.
-//! Reads lines of Telemotive ASCII back, as they return edited: `convert --ascii FILE`. Prints them as an export has them; or the refusal, and in words
-//! what is wrong.
+//! Bus 0 is printed as channel 1, as the bench program prints it, or as channel N: `convert --channel N FILE`, with N from 0 to 16. So the traces of two
+//! loggers without buses can be told apart.
+//! Reads lines of Telemotive ASCII back, as they return edited: `convert --ascii FILE`. Prints them as an export has them, with the same channels; or the
+//! refusal, and in words what is wrong.
 //! All lines end with CR LF, as those of the export do. A pipe will do as well.
 //! Ends with 0 if the trace or the lines were exported, 1 if they were refused, and 2 if it could not be done.
 
 use bushingowl::{
     explain_refusal, export_to_vec, read_ascii_to_vec, read_to_vec, Reason, Refused,
-    CHANNEL_AS_BENCH, CHANNEL_AS_BUS, MOST_OFFSET, MOST_ROWS, MOST_TEXT,
+    CHANNEL_AS_BENCH, CHANNEL_AS_BUS, MOST_CHANNEL, MOST_OFFSET, MOST_ROWS, MOST_TEXT,
 };
 use std::ffi::{OsStr, OsString};
 use std::fs::File;
@@ -14,11 +16,9 @@ use std::io::{self, ErrorKind, Read, Write};
 use std::process::ExitCode;
 
 fn main() -> ExitCode {
-    let names: Vec<OsString> = std::env::args_os().skip(1).collect();
-    let (ascii, name) = match names.as_slice() {
-        [option, name] if option == "--ascii" => (true, name),
-        [name] if name != "--ascii" => (false, name),
-        _ => return failed("usage: convert FILE, or convert --ascii FILE"),
+    let given: Vec<OsString> = std::env::args_os().skip(1).collect();
+    let Some((held, name)) = asked(&given) else {
+        return failed("usage: convert FILE, or convert --channel N FILE, or convert --ascii FILE");
     };
     let text = match contents(name) {
         Ok(text) => text,
@@ -27,15 +27,13 @@ fn main() -> ExitCode {
             return failed(&format!("convert: can't read {name}: {}", words(&error)));
         }
     };
-    let converted = if ascii {
-        respell(&text)
-    } else {
-        convert(&text)
+    let converted = match held {
+        Held::Trace { channel } => convert(&text, channel).map_err(|why| refusal(&text, why)),
+        Held::Lines => respell(&text).map_err(|why| ascii_refusal(&text, why)),
     };
     let (output, code) = match converted {
         Ok(output) => (output, ExitCode::SUCCESS),
-        Err(refused) if ascii => (ascii_refusal(&text, refused), ExitCode::FAILURE),
-        Err(refused) => (refusal(&text, refused), ExitCode::FAILURE),
+        Err(refusal) => (refusal, ExitCode::FAILURE),
     };
     match print(&output) {
         Ok(()) => code,
@@ -43,6 +41,37 @@ fn main() -> ExitCode {
         Err(error) if error.kind() == ErrorKind::BrokenPipe => code,
         Err(error) => failed(&format!("convert: can't write: {}", words(&error))),
     }
+}
+
+/// What a file is said to hold.
+enum Held {
+    /// A trace, to be printed with bus 0 as this channel.
+    Trace { channel: u64 },
+    /// Lines of Telemotive ASCII.
+    Lines,
+}
+
+/// What the arguments ask for, and the name of the file.
+fn asked(given: &[OsString]) -> Option<(Held, &OsStr)> {
+    match given {
+        [option, name] if option == "--ascii" => Some((Held::Lines, name)),
+        [option, number, name] if option == "--channel" => {
+            let channel = channel_of(number)?;
+            Some((Held::Trace { channel }, name))
+        }
+        [name] if name != "--ascii" && name != "--channel" => {
+            let channel = CHANNEL_AS_BENCH;
+            Some((Held::Trace { channel }, name))
+        }
+        _ => None,
+    }
+}
+
+/// A number in decimal. One of more than 64 bits is above the last channel whatever it is.
+fn channel_of(word: &OsStr) -> Option<u64> {
+    let word = word.to_str()?;
+    let digits = !word.is_empty() && word.bytes().all(|byte| byte.is_ascii_digit());
+    digits.then(|| word.parse().unwrap_or(u64::MAX))
 }
 
 /// The bytes of a file. Of one above the limit one byte more is read than a text may have, so that it is refused as such.
@@ -53,10 +82,10 @@ fn contents(name: &OsStr) -> io::Result<Vec<u8>> {
     Ok(text)
 }
 
-/// What is printed for a good trace.
-fn convert(text: &[u8]) -> Result<Vec<u8>, Refused> {
+/// What is printed for a good trace, with bus 0 as this channel.
+fn convert(text: &[u8], channel: u64) -> Result<Vec<u8>, Refused> {
     let (trace, records) = read_to_vec(text)?;
-    let (_, lines) = export_to_vec(trace.start, CHANNEL_AS_BENCH, &records)?;
+    let (_, lines) = export_to_vec(trace.start, channel, &records)?;
     let (version, start, rows, first) = (trace.version, trace.start, trace.rows, trace.first);
     let numbered = match rows {
         0 => String::new(),
@@ -71,11 +100,14 @@ fn convert(text: &[u8]) -> Result<Vec<u8>, Refused> {
     Ok([head.as_bytes(), &lines].concat())
 }
 
-/// What is printed for a text that is refused.
+/// What is printed for a text that is refused, or for its channel.
 fn refusal(text: &[u8], refused: Refused) -> Vec<u8> {
     let mut said = format!("refused {} at line {}\r\n", refused.number(), refused.place);
     if let Some(explanation) = explain_refusal(text, refused) {
         said += &format!("{explanation}\r\n");
+    }
+    if refused.reason == Reason::NoChannel {
+        said += &format!("the channel of bus 0 is above {MOST_CHANNEL}\r\n");
     }
     said.into_bytes()
 }
