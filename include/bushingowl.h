@@ -167,11 +167,11 @@ extern "C" {
 /* The last channel, which is that of the last bus. */
 #define BUSHINGOWL_MOST_CHANNEL 16
 
-/* Two channels to give to bo_export for bus 0; any other up to BUSHINGOWL_MOST_CHANNEL will do as well.
- * As channel 0, so that each bus is the channel of its number: what is exported so comes back on its bus, and what came
- * back is exported with the channels that it had. */
+/* Two channels that bo_export can be given for bus 0; any other up to BUSHINGOWL_MOST_CHANNEL will do as well.
+ * AS_BUS: bus 0 as channel 0, so that each bus is the channel of its number. What is exported so comes back on its bus,
+ *   and what came back is exported with the channels that it had.
+ * AS_BENCH: bus 0 as channel 1, as the bench program (./bushingowl) prints it. It comes back as bus 1. */
 #define BUSHINGOWL_CHANNEL_AS_BUS 0
-/* As channel 1, as the bench program (./bushingowl) prints it. It comes back as bus 1. */
 #define BUSHINGOWL_CHANNEL_AS_BENCH 1
 
 /* Reads a trace text into packed records.
