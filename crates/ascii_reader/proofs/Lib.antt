@@ -10,4 +10,5 @@ pub mod UpTo
 pub mod Windows
 pub mod OwnLines
 pub mod Back
+pub mod Carried
 pub mod Few
