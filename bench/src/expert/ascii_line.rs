@@ -4,6 +4,7 @@ use super::clock::days;
 use super::cursor::{Cursor, Window, LONGEST, TOGETHER};
 use super::record::{Fields, EXTENDED_IDS, STANDARD_IDS};
 use super::tables::VALUE;
+use super::LAST_CHANNEL;
 
 /// The last day that a stamp may have.
 const LAST_DAY: u64 = 99_999;
@@ -119,12 +120,12 @@ impl<const JUDGED: bool> Cursor<'_, JUDGED> {
         Some(true)
     }
 
-    /// `#` and the channel.
+    /// `#` and the channel, from 0.
     #[inline(always)]
     fn channel(&mut self) -> Option<u64> {
         self.text(b"#")?;
         let channel = self.decimal::<2>()?;
-        self.must((1..=16).contains(&channel))?;
+        self.must(channel <= LAST_CHANNEL)?;
         Some(channel)
     }
 

@@ -1,6 +1,6 @@
 //! Lines of Telemotive ASCII: the two of the paper, each part on either side of its limits, and what comes of stamps, ends and room.
 
-use super::{export, read_ascii, RECORD};
+use super::{export, read_ascii, unpack, RECORD};
 
 const LINES: &str = "29.02.2000 12:00:00.0000 CAN #1 | Rx 123 2 0a ff\r\n\
     29.02.2000 12:00:01.5002 CANExt #2 | EXTENDED Tx 18ab0001 0\r\n";
@@ -36,6 +36,22 @@ fn offsets(records: &[u8]) -> Vec<u64> {
     records.chunks(RECORD).map(offset).collect()
 }
 
+/// The bus of each record.
+fn buses(records: &[u8]) -> Vec<u64> {
+    let records = records.chunks(RECORD);
+    records.map(|record| unpack(record)[3]).collect()
+}
+
+/// The lines of records that all give one.
+fn exported(start: u64, channel: u64, records: &[u8]) -> String {
+    let count = records.len() / RECORD;
+    let mut out = vec![BEFORE; 86 * count];
+    let [number, place, bytes, lines, left_out] = export(start, channel, records, &mut out);
+    assert_eq!([number, place, lines, left_out], [0, 0, count as u64, 0]);
+    out.truncate(bytes as usize);
+    String::from_utf8(out).unwrap()
+}
+
 /// Lines with these stamps.
 fn stamped(stamps: &[&str]) -> String {
     let lines = stamps.iter().map(|stamp| format!("{stamp} {REST}\n"));
@@ -54,10 +70,9 @@ fn lines_of_the_paper() {
         0, 0, 0, 0x16, 0xE4, 0x28, 0x11, 0xE2, 0xAC, 0, 4, 0, 0, 0, 0, 0, 0, 0, 0, 0,
     ];
     assert_eq!(records[RECORD..], second);
-    let mut out = vec![0; LINES.len()];
-    let len = out.len() as u64;
-    assert_eq!(export(START, &records, &mut out), [0, 0, len, 2, 0]);
-    assert_eq!(out, LINES.as_bytes());
+    for channel in 0..=16 {
+        assert_eq!(exported(START, channel, &records), LINES);
+    }
 }
 
 #[test]
@@ -107,8 +122,9 @@ fn parts_in_turn() {
     );
     let channel = (
         "#1",
-        "#2|#9|#10|#11|#15|#16",
-        "#0|#17|#18|#19|#20|#01|#00|#016|#010|#100|#160|#|1|##1|#1#|#1.|#-1|#+1|#a|#A|#257|# 1|1#|$1|#1,",
+        "#0|#2|#9|#10|#11|#15|#16",
+        "#17|#18|#19|#20|#01|#00|#000|#016|#017|#010|#100|#160|#|1|0|##1|##0|#1#|#0#|#1.|#0.|#-1|#-0|#+1|#+0|#a|#A|#256|#257|# 1|# 0|\
+         1#|0#|$1|$0|#1,|#0,|#o|#O|#/|#:|#\x00",
     );
     let bar = ("|", "", "I|l|!|:|/|#|\u{a6}|-");
     let direction = (
@@ -192,6 +208,52 @@ fn parts_in_turn() {
             assert_eq!(answer(&spelled(&doubled)), at(31, 1), "{doubled:?}");
             assert_eq!(answer(&spelled(&line[..place])), at(31, 1), "{place}");
         }
+    }
+}
+
+/// Lines of this channel, in each form and with each end.
+fn of_channel(channel: &str) -> String {
+    let stamp = "29.02.2000 12:00:00.0000";
+    format!(
+        "{stamp} CAN #{channel} | Rx 123 0\r\n{stamp} CANExt #{channel} | EXTENDED Tx 00000123 0\n\
+         {stamp} CAN  #{channel}  | Tx 123 1 00\n{stamp} CANExt #{channel} |  EXTENDED Rx 00000123 1 00\r\n"
+    )
+}
+
+#[test]
+fn channels() {
+    for channel in 0..=16 {
+        let text = of_channel(&channel.to_string());
+        let (answer, records) = read(&text);
+        assert_eq!(answer, [0, 0, START, 4]);
+        assert_eq!(buses(&records), [channel; 4]);
+    }
+    for channel in (17..=300).chain([1 << 8, 1 << 16, 1 << 32, 1 << 63, u64::MAX]) {
+        assert_eq!(answer(&of_channel(&channel.to_string())), at(31, 1));
+    }
+    for zeros in ["0", "00", "000"] {
+        for channel in 0..=20 {
+            let text = of_channel(&format!("{zeros}{channel}"));
+            assert_eq!(answer(&text), at(31, 1), "{text}");
+        }
+    }
+}
+
+#[test]
+fn bus_0_there_and_back() {
+    let text: String = (0..=16).map(|bus| of_channel(&bus.to_string())).collect();
+    let (answer, records) = read(&text);
+    assert_eq!(answer, [0, 0, START, 4 * 17]);
+    let house = text.replace("  ", " ").replace('\r', "");
+    let house = house.replace('\n', "\r\n");
+    for channel in 0..=16 {
+        let lines = exported(START, channel, &records);
+        assert_eq!(lines, house.replace("#0 ", &format!("#{channel} ")));
+        let (again, others) = read(&lines);
+        assert_eq!(again, answer);
+        let expected = (0..=16).flat_map(|bus| [if bus == 0 { channel } else { bus }; 4]);
+        assert_eq!(buses(&others), expected.collect::<Vec<u64>>());
+        assert_eq!(others == records, channel == 0);
     }
 }
 

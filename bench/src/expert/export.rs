@@ -4,53 +4,71 @@ use super::clock::Clock;
 use super::pen::{digits, Pen};
 use super::record::{Fields, REMOTE};
 use super::tables::SMALL;
-use super::{whole_records, Refusal, LAST_START, RECORD};
+use super::{whole_records, Refusal, LAST_CHANNEL, LAST_START, RECORD};
 
-pub fn export(start: u64, records: &[u8], out: &mut [u8]) -> [u64; 5] {
-    match export_or_refuse(start, records, out) {
+/// The channel that is given is that of bus 0.
+pub fn export(start: u64, channel: u64, records: &[u8], out: &mut [u8]) -> [u64; 5] {
+    match export_or_refuse(start, channel, records, out) {
         Ok([bytes, lines, left_out]) => [0, 0, bytes, lines, left_out],
         Err((number, place)) => [number, place, 0, 0, 0],
     }
 }
 
-fn export_or_refuse(start: u64, records: &[u8], out: &mut [u8]) -> Result<[u64; 3], Refusal> {
+fn export_or_refuse(
+    start: u64,
+    channel: u64,
+    records: &[u8],
+    out: &mut [u8],
+) -> Result<[u64; 3], Refusal> {
     let records = whole_records(records).ok_or((20, 0))?;
     if start > LAST_START {
         return Err((22, 0));
     }
-    let (bytes, lines) = measure(records)?;
+    if channel > LAST_CHANNEL {
+        return Err((35, 0));
+    }
+    let (bytes, lines) = measure(channel, records)?;
     let mut pen = Pen::new(out.get_mut(..bytes).ok_or((25, 0))?);
     let mut clock = Clock::new();
     for record in records {
         let fields = Fields::load(record);
         if fields.kind < REMOTE {
             put_stamp(&mut pen, &mut clock, start * 10 + fields.offset / 100);
-            put_frame(&mut pen, &fields);
+            put_frame(&mut pen, channel_of(&fields, channel), &fields);
         }
     }
     Ok([bytes as u64, lines, records.len() as u64 - lines])
 }
 
 /// The bytes and the number of all lines.
-fn measure(records: &[[u8; RECORD]]) -> Result<(usize, u64), Refusal> {
+fn measure(channel: u64, records: &[[u8; RECORD]]) -> Result<(usize, u64), Refusal> {
     let (mut bytes, mut lines) = (0, 0);
     for (number, record) in (1..).zip(records) {
         let fields = Fields::judge(record).ok_or((23, number))?;
         if fields.kind < REMOTE {
-            bytes += line_length(&fields);
+            bytes += line_length(channel_of(&fields, channel), &fields);
             lines += 1;
         }
     }
     Ok((bytes, lines))
 }
 
+/// The channel in a line. Every bus but 0 has the channel of its number.
 #[inline(always)]
-fn line_length(fields: &Fields) -> usize {
+fn channel_of(fields: &Fields, of_bus_0: u64) -> u64 {
+    match fields.bus {
+        0 => of_bus_0,
+        bus => bus,
+    }
+}
+
+#[inline(always)]
+fn line_length(channel: u64, fields: &Fields) -> usize {
     let around = match fields.extended {
         0 => "29.02.2000 12:00:00.0000 CAN # | Rx 123 2\r\n".len(),
         _ => "29.02.2000 12:00:00.0000 CANExt # | EXTENDED Rx 18ab0001 2\r\n".len(),
     };
-    around + digits(fields.bus) + 3 * fields.length as usize
+    around + digits(channel) + 3 * fields.length as usize
 }
 
 /// Date and time of a count of 100 microseconds.
@@ -63,9 +81,8 @@ fn put_stamp(pen: &mut Pen, clock: &mut Clock, stamp: u64) {
 }
 
 #[inline(always)]
-fn put_frame(pen: &mut Pen, fields: &Fields) {
+fn put_frame(pen: &mut Pen, channel: u64, fields: &Fields) {
     let first = if fields.kind == 0 { b'R' } else { b'T' };
-    let channel = fields.bus.max(1);
     let bytes = (fields.id as u32).to_be_bytes();
     let [a, b, c, d] = bytes.map(|byte| SMALL[usize::from(byte)]);
     if fields.extended == 0 {

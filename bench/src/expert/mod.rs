@@ -40,6 +40,8 @@ const MOST_RECORDS: usize = 999_999 * RECORD;
 const LAST_START: u64 = 8_639_999_999_999;
 /// The milliseconds of a day.
 const DAY: u64 = 86_400_000;
+/// The last channel.
+const LAST_CHANNEL: u64 = 16;
 
 /// Number and place.
 type Refusal = (u64, u64);

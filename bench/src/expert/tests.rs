@@ -1,4 +1,4 @@
-//! The small trace of the paper, its limits that are spelled in a row, and what is wrong with lines that are none.
+//! The small trace of the paper, its limits that are spelled in a row, the channels of an export, and what is wrong with lines that are none.
 
 use super::{explain, export, pack, read, unpack, write, LAST_START, RECORD};
 
@@ -11,6 +11,25 @@ const LINES: &str = "29.02.2000 12:00:00.0000 CAN #1 | Rx 123 2 0a ff\r\n\
 const START: u64 = 3_160_987_200_000;
 /// The largest offset: all 48 bits.
 const LAST_OFFSET: u64 = (1 << 48) - 1;
+/// Channels that there are not; of most of them the lower bits are one.
+const NO_CHANNELS: [u64; 14] = [
+    17,
+    18,
+    31,
+    32,
+    33,
+    255,
+    256,
+    257,
+    1 << 16,
+    1 << 32,
+    1 << 32 | 16,
+    1 << 63,
+    1 << 63 | 1,
+    u64::MAX,
+];
+/// What an output holds before the call.
+const BEFORE: u8 = 0xAA;
 
 #[test]
 fn small_trace() {
@@ -27,10 +46,14 @@ fn small_trace() {
     assert_eq!(write(12, START, 1, &records, &mut out), [0, 0, len]);
     assert_eq!(out, written.as_bytes());
 
-    let mut out = vec![0; LINES.len()];
-    let len = out.len() as u64;
-    assert_eq!(export(START, &records, &mut out), [0, 0, len, 2, 1]);
-    assert_eq!(out, LINES.as_bytes());
+    // None of the records has bus 0.
+    for channel in 0..=16 {
+        let mut out = vec![0; LINES.len()];
+        let len = out.len() as u64;
+        let exported = export(START, channel, &records, &mut out);
+        assert_eq!(exported, [0, 0, len, 2, 1]);
+        assert_eq!(out, LINES.as_bytes());
+    }
 }
 
 #[test]
@@ -173,8 +196,134 @@ fn last_stamps() {
         let line = format!("{stamp} CAN #16 | Tx 7ff 0\r\n");
         let mut out = vec![0; line.len()];
         let len = out.len() as u64;
-        assert_eq!(export(start, &record, &mut out), [0, 0, len, 1, 0]);
+        assert_eq!(export(start, 0, &record, &mut out), [0, 0, len, 1, 0]);
         assert_eq!(out, line.as_bytes());
+    }
+}
+
+/// A record of a bus, without data where its kind may have none.
+fn record(bus: u64, kind: u64, extended: u64) -> [u8; RECORD] {
+    let [id, length, data] = match kind {
+        4 => [0, 4, 0],
+        5 => [1, 4, 2 << 48],
+        _ => [0x123, 0, 0],
+    };
+    let mut record = [0; RECORD];
+    let fields = [0, bus, kind, extended, id, length, data];
+    assert_eq!(pack(&fields, &mut record), [0, 0]);
+    record
+}
+
+/// The answer of an export from start 0, and the lines. Nothing but these is written, just as much room is enough, and one byte less is not.
+fn exported(channel: u64, records: &[u8]) -> ([u64; 5], String) {
+    let mut out = [BEFORE; 8000];
+    let answer = export(0, channel, records, &mut out);
+    let len = answer[2] as usize;
+    assert!(out[len..].iter().all(|&byte| byte == BEFORE));
+    let mut just = vec![BEFORE; len];
+    assert_eq!(export(0, channel, records, &mut just), answer);
+    assert_eq!(just, out[..len]);
+    if len > 0 {
+        let mut short = vec![BEFORE; len - 1];
+        let refused = export(0, channel, records, &mut short);
+        assert_eq!(refused, [25, 0, 0, 0, 0]);
+        assert_eq!(short, vec![BEFORE; len - 1]);
+    }
+    (answer, String::from_utf8(just).unwrap())
+}
+
+/// The line of a data frame that was sent.
+fn line(channel: u64, extended: u64) -> String {
+    let rest = match extended {
+        0 => format!("CAN #{channel} | Tx 123 0\r\n"),
+        _ => format!("CANExt #{channel} | EXTENDED Tx 00000123 0\r\n"),
+    };
+    format!("30.12.1899 00:00:00.0000 {rest}")
+}
+
+#[test]
+fn channel_of_each_bus() {
+    for channel in 0..=16 {
+        let mut records = Vec::new();
+        let mut lines = String::new();
+        for (bus, extended) in (0..=16).flat_map(|bus| [(bus, 0), (bus, 1)]) {
+            let shown = if bus == 0 { channel } else { bus };
+            let (record, line) = (record(bus, 1, extended), line(shown, extended));
+            let len = line.len() as u64;
+            let alone = exported(channel, &record);
+            assert_eq!(alone, ([0, 0, len, 1, 0], line.clone()));
+            records.extend(record);
+            lines += &line;
+        }
+        let len = lines.len() as u64;
+        assert_eq!(exported(channel, &records), ([0, 0, len, 34, 0], lines));
+    }
+}
+
+#[test]
+fn channel_of_what_gives_no_line() {
+    for channel in 0..=16 {
+        assert_eq!(exported(channel, &[]), ([0; 5], String::new()));
+        let others: Vec<u8> = (2..=5).flat_map(|kind| record(0, kind, 0)).collect();
+        let answer = [0, 0, 0, 0, 4];
+        assert_eq!(exported(channel, &others), (answer, String::new()));
+        let between = [others.clone(), record(0, 1, 1).to_vec(), others].concat();
+        let line = line(channel, 1);
+        let answer = [0, 0, line.len() as u64, 1, 8];
+        assert_eq!(exported(channel, &between), (answer, line));
+    }
+}
+
+#[test]
+fn no_channels() {
+    let buses = |kind: u64| move |bus: u64| record(bus, kind, 0);
+    let lists: [Vec<u8>; 6] = [
+        Vec::new(),
+        record(0, 0, 0).to_vec(),
+        record(0, 2, 1).to_vec(),
+        (1..=16).flat_map(buses(1)).collect(),
+        (1..=16).flat_map(buses(4)).collect(),
+        (0..=16).flat_map(buses(1)).collect(),
+    ];
+    for list in &lists {
+        assert_eq!(exported(16, list).0[0], 0);
+        for channel in NO_CHANNELS {
+            for room in [0, 1, 42, 44, 8000] {
+                let mut out = vec![BEFORE; room];
+                assert_eq!(export(0, channel, list, &mut out), [35, 0, 0, 0, 0]);
+                assert!(out.iter().all(|&byte| byte == BEFORE));
+            }
+        }
+    }
+}
+
+#[test]
+fn refusals_of_an_export_in_turn() {
+    let good = [record(0, 1, 0), record(3, 0, 1)].concat();
+    // Bus 17; so the second record is not well formed.
+    let mut bad = good.clone();
+    bad[RECORD + 6] = 17 << 3;
+    let cut = &good[..2 * RECORD - 1];
+    let late = [LAST_START + 1, u64::MAX];
+    for (list, number, place) in [(&*good, 25, 0), (&*bad, 23, 2), (cut, 20, 0), (&[1], 20, 0)] {
+        for channel in (0..=16).chain(NO_CHANNELS) {
+            for start in [0, LAST_START].into_iter().chain(late) {
+                let (number, place) = match number {
+                    20 => (20, 0),
+                    _ if start > LAST_START => (22, 0),
+                    _ if channel > 16 => (35, 0),
+                    _ => (number, place),
+                };
+                let mut out = [BEFORE; 44];
+                let answer = export(start, channel, list, &mut out);
+                assert_eq!(answer, [number, place, 0, 0, 0]);
+                assert_eq!(out, [BEFORE; 44]);
+            }
+        }
+    }
+    for (channel, number) in [(16, 0), (17, 35)] {
+        assert_eq!(export(LAST_START, channel, &[], &mut [])[0], number);
+        assert_eq!(export(LAST_START + 1, channel, &[], &mut [])[0], 22);
     }
 }
 
