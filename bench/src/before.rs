@@ -1,14 +1,17 @@
 //! An earlier library, opened as a shared object: the present one is linked, and its functions have the same names.
 //!
 //! Why every call here is sound:
-//! - The script `measure` makes the shared object of an archive whose functions are those of `include/bushingowl.h`, as it is, as it was before
-//!   Order 4, which added one, or as it was before Order 3. A variable says whether it is the last, and a first call of the reader, sound for
-//!   all, tells whether that is so. Whether it has the function of Order 4 is told by its name.
+//! - The script `measure` makes the shared object of an archive whose functions are those of `include/bushingowl.h`, as it is or as it was before
+//!   Order 6, 4 or 3. Which of these it is, is told before any function is called that has other parameters in one of them: by whether there is a
+//!   reader of ASCII, which Order 4 added, and by calls of the two readers, whose parameters have always been the same. Since Order 3 the reader sets
+//!   a seventh number, for which there is room, and since Order 6 the reader of ASCII takes channel 0. So the export and the writer are called
+//!   with the parameters of the header that the library was made with.
+//! - For a library before the present one a variable must name the same header. Where it names another, or none, nothing more is called.
 //! - It is never closed, so that its functions stay where they are.
 //! - A slice goes over as its pointer and its length, and the library reads and writes only within the lengths given.
 //! - `&mut` makes sure that the output and the answer overlap with nothing else in the call. No pointer is kept.
 
-use std::env;
+use std::env::{self, VarError::NotUnicode};
 use std::ffi::{c_char, c_int, c_void, CStr, CString, OsString};
 use std::mem::transmute;
 use std::ptr::NonNull;
@@ -17,7 +20,9 @@ type Read = unsafe extern "C" fn(*const u8, usize, *mut u8, usize, *mut u64);
 type Write = unsafe extern "C" fn(u32, u64, u64, *const u8, usize, *mut u8, usize, *mut u64);
 /// The writer before Order 3, which gave it a first number.
 type WriteFromOne = unsafe extern "C" fn(u32, u64, *const u8, usize, *mut u8, usize, *mut u64);
-type Export = unsafe extern "C" fn(u64, *const u8, usize, *mut u8, usize, *mut u64);
+type Export = unsafe extern "C" fn(u64, u64, *const u8, usize, *mut u8, usize, *mut u64);
+/// The export before Order 6, which gave it a channel.
+type ExportAsOne = unsafe extern "C" fn(u64, *const u8, usize, *mut u8, usize, *mut u64);
 
 extern "C" {
     fn dlopen(path: *const c_char, mode: c_int) -> *mut c_void;
@@ -31,18 +36,22 @@ const RTLD_NOW: c_int = 2;
 const VARIABLE: &str = "BUSHINGOWL_BEFORE_SHARED";
 /// The variable that says by which header the library is called: the number that `BUSHINGOWL_API` has there.
 const API: &str = "BUSHINGOWL_BEFORE_API";
-/// The header as it is, as it was before Order 4, and before Order 3.
-const PRESENT: &str = "4";
-const WITHOUT_ASCII: &str = "3";
-const FROM_ONE: &str = "2";
+/// The header as it is, as it was before Order 6, before Order 4, and before Order 3.
+const PRESENT: u64 = 5;
+const AS_ONE: u64 = 4;
+const WITHOUT_ASCII: u64 = 3;
+const FROM_ONE: u64 = 2;
 /// What an answer holds before the call. Every call sets every number.
 const UNSET: u64 = u64::MAX;
+/// A line that is none before Order 6, and the bytes of its record.
+const CHANNEL_0: &[u8] = b"30.12.1899 00:00:00.0000 CAN #0 | Rx 123 0\n";
+const RECORD: usize = 20;
 
 /// Its functions are those of `bushingowl::numbers`.
 pub struct Before {
     read: Read,
     write: Writer,
-    export: Export,
+    export: Exporter,
     /// Since Order 4. It has the parameters of the reader.
     read_ascii: Option<Read>,
 }
@@ -51,6 +60,12 @@ enum Writer {
     Numbered(Write),
     /// Before Order 3: all rows are numbered from 1 on, and the reader says nothing of it.
     FromOne(WriteFromOne),
+}
+
+enum Exporter {
+    Given(Export),
+    /// Before Order 6: bus 0 is written as channel 1.
+    AsOne(ExportAsOne),
 }
 
 impl Before {
@@ -68,57 +83,43 @@ impl Before {
         let write = function(object, c"bo_write")?;
         let export = function(object, c"bo_export")?;
         let read_ascii = function(object, c"bo_read_ascii").ok();
-        let api = api()?;
-        let from_one = api.as_deref() == Some(FROM_ONE);
-        match (api.as_deref(), read_ascii) {
-            (Some(PRESENT), None) => {
-                return Err(format!("{API}={PRESENT} is for one with Order 4"));
+        // SAFETY: see above; both readers have these parameters in every header that has them.
+        let (read, read_ascii) = unsafe {
+            let of_type = |function| transmute::<NonNull<c_void>, Read>(function);
+            (of_type(read), read_ascii.map(of_type))
+        };
+        let told = told(read, read_ascii)?;
+        match named_api()? {
+            Some(named) if named != told => {
+                return Err(format!("{API}={named} is for another, it needs {told}"));
             }
-            (Some(older), Some(_)) if older != PRESENT => {
-                return Err(format!("{API}={older} is for one from before Order 4"));
+            None if told != PRESENT => {
+                return Err(format!("made before Order 6, it needs {API}={told}"));
             }
             _ => {}
         }
-        // SAFETY: see above; all are functions of the header, with its parameters.
+        // SAFETY: see above; writer and export have the parameters of the header that was told.
         let before = unsafe {
             Before {
-                read: transmute::<NonNull<c_void>, Read>(read),
-                write: match from_one {
-                    true => Writer::FromOne(transmute::<NonNull<c_void>, WriteFromOne>(write)),
-                    false => Writer::Numbered(transmute::<NonNull<c_void>, Write>(write)),
+                read,
+                write: match told {
+                    FROM_ONE => Writer::FromOne(transmute::<NonNull<c_void>, WriteFromOne>(write)),
+                    _ => Writer::Numbered(transmute::<NonNull<c_void>, Write>(write)),
                 },
-                export: transmute::<NonNull<c_void>, Export>(export),
-                read_ascii: read_ascii.map(|function| transmute::<NonNull<c_void>, Read>(function)),
+                export: match told {
+                    PRESENT => Exporter::Given(transmute::<NonNull<c_void>, Export>(export)),
+                    _ => Exporter::AsOne(transmute::<NonNull<c_void>, ExportAsOne>(export)),
+                },
+                read_ascii,
             }
         };
-        let [.., first] = before.numbers_read(b"", &mut []);
-        match (first == UNSET, from_one) {
-            (true, false) => Err(format!("made before Order 3, it needs {API}={FROM_ONE}")),
-            (false, true) => Err(format!("{API}={FROM_ONE} is for one from before Order 3")),
-            _ => Ok(before),
-        }
+        Ok(before)
     }
 
     pub fn read(&self, text: &[u8], out: &mut [u8]) -> [u64; 7] {
-        let mut answer = self.numbers_read(text, out);
+        let mut answer = numbers_read(self.read, text, out);
         if let Writer::FromOne(_) = self.write {
             answer[6] = answer[4].min(1);
-        }
-        answer
-    }
-
-    /// The numbers that the reader sets; before Order 3 the last, which is the first number, was not among them.
-    fn numbers_read(&self, text: &[u8], out: &mut [u8]) -> [u64; 7] {
-        let mut answer = [UNSET; 7];
-        // SAFETY: see above; the answer has room for the seven numbers of the header, and so for the six that there were.
-        unsafe {
-            (self.read)(
-                text.as_ptr(),
-                text.len(),
-                out.as_mut_ptr(),
-                out.len(),
-                answer.as_mut_ptr(),
-            )
         }
         answer
     }
@@ -146,18 +147,17 @@ impl Before {
         answer
     }
 
-    pub fn export(&self, start: u64, records: &[u8], out: &mut [u8]) -> [u64; 5] {
+    /// Before Order 6 the channel is 1, whatever is given.
+    pub fn export(&self, start: u64, channel: u64, records: &[u8], out: &mut [u8]) -> [u64; 5] {
         let mut answer = [UNSET; 5];
+        let (list, list_len) = (records.as_ptr(), records.len());
+        let (text, room, said) = (out.as_mut_ptr(), out.len(), answer.as_mut_ptr());
         // SAFETY: see above; the answer has room for the five numbers of the header.
         unsafe {
-            (self.export)(
-                start,
-                records.as_ptr(),
-                records.len(),
-                out.as_mut_ptr(),
-                out.len(),
-                answer.as_mut_ptr(),
-            )
+            match self.export {
+                Exporter::Given(export) => export(start, channel, list, list_len, text, room, said),
+                Exporter::AsOne(export) => export(start, list, list_len, text, room, said),
+            }
         }
         answer
     }
@@ -170,29 +170,67 @@ impl Before {
     /// Nothing if it is from before Order 4.
     pub fn read_ascii(&self, text: &[u8], out: &mut [u8]) -> Option<[u64; 4]> {
         let read_ascii = self.read_ascii?;
-        let mut answer = [UNSET; 4];
-        // SAFETY: see above; the answer has room for the four numbers of the header.
-        unsafe {
-            read_ascii(
-                text.as_ptr(),
-                text.len(),
-                out.as_mut_ptr(),
-                out.len(),
-                answer.as_mut_ptr(),
-            )
-        }
-        Some(answer)
+        Some(ascii_read(read_ascii, text, out))
     }
 }
 
-/// The header that the variable names; if it names none, one since Order 3.
-fn api() -> Result<Option<String>, String> {
-    match env::var(API).as_deref() {
-        Err(_) | Ok("") => Ok(None),
-        Ok(known @ (FROM_ONE | WITHOUT_ASCII | PRESENT)) => Ok(Some(known.to_string())),
-        Ok(other) => Err(format!(
-            "{API} is {FROM_ONE}, {WITHOUT_ASCII} or {PRESENT}, not {other}"
-        )),
+/// The numbers that a reader sets; before Order 3 the last, which is the first number, was not among them.
+fn numbers_read(read: Read, text: &[u8], out: &mut [u8]) -> [u64; 7] {
+    let mut answer = [UNSET; 7];
+    // SAFETY: see above; the answer has room for the seven numbers of the header, and so for the six that there were.
+    unsafe {
+        read(
+            text.as_ptr(),
+            text.len(),
+            out.as_mut_ptr(),
+            out.len(),
+            answer.as_mut_ptr(),
+        )
+    }
+    answer
+}
+
+fn ascii_read(read_ascii: Read, text: &[u8], out: &mut [u8]) -> [u64; 4] {
+    let mut answer = [UNSET; 4];
+    // SAFETY: see above; the answer has room for the four numbers of the header.
+    unsafe {
+        read_ascii(
+            text.as_ptr(),
+            text.len(),
+            out.as_mut_ptr(),
+            out.len(),
+            answer.as_mut_ptr(),
+        )
+    }
+    answer
+}
+
+/// The header that a library was made with, as its readers tell.
+fn told(read: Read, read_ascii: Option<Read>) -> Result<u64, String> {
+    let Some(read_ascii) = read_ascii else {
+        return match numbers_read(read, b"", &mut []) {
+            [.., UNSET] => Ok(FROM_ONE),
+            _ => Ok(WITHOUT_ASCII),
+        };
+    };
+    match ascii_read(read_ascii, CHANNEL_0, &mut [0; RECORD]) {
+        [0, 0, 0, 1] => Ok(PRESENT),
+        [31, 1, 0, 0] => Ok(AS_ONE),
+        other => Err(format!("a line of channel 0 is answered by {other:?}")),
+    }
+}
+
+/// The header that the variable names, if it names one.
+fn named_api() -> Result<Option<u64>, String> {
+    let named = match env::var(API) {
+        Ok(named) if !named.is_empty() => named,
+        Err(NotUnicode(_)) => "no number".to_string(),
+        _ => return Ok(None),
+    };
+    let known = [FROM_ONE, WITHOUT_ASCII, AS_ONE, PRESENT];
+    match known.iter().find(|number| number.to_string() == named) {
+        Some(&number) => Ok(Some(number)),
+        None => Err(format!("{API} is one of {known:?}, not {named}")),
     }
 }
 

@@ -1,6 +1,6 @@
 //! Measures the library and the expert, and prints a table: `measure [ROWS...]`. An earlier library is measured beside them if there is one.
 
-use bushingowl::{numbers, MOST_HEADER, MOST_LINE, MOST_ROW, RECORD};
+use bushingowl::{numbers, CHANNEL_AS_BENCH, MOST_HEADER, MOST_LINE, MOST_ROW, RECORD};
 use bushingowl_bench::before::Before;
 use bushingowl_bench::boundary;
 use bushingowl_bench::cpu_time::cpu_time;
@@ -23,6 +23,8 @@ times traces of so many rows, each a number from 1 to 999999; without ROWS those
 const START: u64 = 3_907_994_400_000;
 /// The number of the first row.
 const FIRST: u64 = 1;
+/// The channel of bus 0 in an export, which it always was before Order 6.
+const CHANNEL: u64 = CHANNEL_AS_BENCH;
 /// How long each operation is tried, and how often at least.
 const LONG_ENOUGH: Duration = Duration::from_millis(600);
 const OFTEN_ENOUGH: usize = 7;
@@ -133,11 +135,11 @@ impl Side {
         }
     }
 
-    fn export(&self, start: u64, records: &[u8], out: &mut [u8]) -> [u64; 5] {
+    fn export(&self, records: &[u8], out: &mut [u8]) -> [u64; 5] {
         match self {
-            Side::Library => numbers::export(start, records, out),
-            Side::Before(before) => before.export(start, records, out),
-            Side::Expert => expert::export(start, records, out),
+            Side::Library => numbers::export(START, CHANNEL, records, out),
+            Side::Before(before) => before.export(START, CHANNEL, records, out),
+            Side::Expert => expert::export(START, CHANNEL, records, out),
         }
     }
 }
@@ -149,7 +151,7 @@ fn measure_all(sides: &[Side], rows: usize, version: u32) {
     let [.., len] = expert::write(version, START, FIRST, &records, &mut text);
     text.truncate(len as usize);
     let mut lines = vec![0; rows * MOST_LINE];
-    let [_, _, len, exported, _] = expert::export(START, &records, &mut lines);
+    let [_, _, len, exported, _] = expert::export(START, CHANNEL, &records, &mut lines);
     lines.truncate(len as usize);
     let case = Case {
         sides: sides.iter().map(Some).collect(),
@@ -174,7 +176,7 @@ fn measure_all(sides: &[Side], rows: usize, version: u32) {
     case.measure(
         "export",
         rows * MOST_LINE,
-        |side, out| side.export(START, black_box(&records), out),
+        |side, out| side.export(black_box(&records), out),
         |answer| answer[2] as usize,
     );
     let case = Case {
