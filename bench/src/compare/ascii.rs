@@ -1,12 +1,14 @@
 //! One text of Telemotive ASCII at random, of any kind.
 
+use super::inputs::{of_version, VERSIONS};
 use super::runs::Runs;
 use super::Checked;
 use crate::inputs::ascii::{any_stamp, first_stamp, good_stamp, AsciiStyle, AsciiText, Line};
 use crate::inputs::ascii_damage::{damage, letters, words};
 use crate::inputs::ascii_spoiled::spoiled;
+use crate::inputs::channels::good_channel;
 use crate::inputs::random::Random;
-use crate::inputs::records::{packed_all, record, Fields};
+use crate::inputs::records::{packed_all, Fields};
 use crate::inputs::LAST_START;
 
 pub fn one_text(runs: &mut Runs) -> Checked {
@@ -30,9 +32,9 @@ fn read(runs: &mut Runs, kind: &'static str, make: fn(&mut Random) -> Vec<u8>) -
 /// The export of records, as it is and edited.
 fn exported(runs: &mut Runs) -> Checked {
     let random = &mut runs.random;
-    let version = random.pick(&[11, 12, 12]);
+    let versions = random.pick(&VERSIONS);
     let count = how_many(random);
-    let mut rows: Vec<Fields> = (0..count).map(|_| record(random, version)).collect();
+    let mut rows: Vec<Fields> = (0..count).map(|_| of_version(random, versions)).collect();
     match random.below(4) {
         0 => {}
         1 => rows.sort_unstable(),
@@ -46,8 +48,10 @@ fn exported(runs: &mut Runs) -> Checked {
     }
     let start = random.number() % (LAST_START + 1);
     let start = random.pick(&[start, start, start, 0, LAST_START, LAST_START - 1000]);
-    let text = runs.exported(start, &packed_all(&rows))?;
-    let lines = rows.iter().filter_map(|row| Line::of_record(start, row));
+    let (kind, channel) = ("export: to be read back", good_channel(random));
+    let (_, text) = runs.export(kind, start, channel, &packed_all(&rows), true)?;
+    let lines = rows.iter();
+    let lines = lines.filter_map(|row| Line::of_record(start, channel, row));
     let mut lines: Vec<(Vec<u8>, Line)> = text
         .split_inclusive(|&byte| byte == b'\n')
         .map(<[u8]>::to_vec)

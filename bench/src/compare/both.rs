@@ -81,18 +81,19 @@ impl Both {
     pub fn export(
         &mut self,
         start: u64,
+        channel: u64,
         records: &[u8],
         room: usize,
     ) -> Result<[u64; 5], Difference> {
         self.run(
             records,
             room,
-            |records, out| numbers::export(start, records, out),
-            |records, out| expert::export(start, records, out),
+            |records, out| numbers::export(start, channel, records, out),
+            |records, out| expert::export(start, channel, records, out),
             |answer| answer[2] as usize,
         )
         .map_err(|what| Difference {
-            what: format!("exporting start {start} into {room} bytes: {what}"),
+            what: format!("exporting start {start}, channel {channel} into {room} bytes: {what}"),
             input: shown(records),
         })
     }

@@ -4,17 +4,19 @@ use super::runs::Runs;
 use super::Checked;
 use crate::inputs::ascii::{date_text, AsciiText, Line, DAY};
 use crate::inputs::records::Fields;
+use crate::inputs::LAST_CHANNEL;
 use std::collections::HashMap;
 
 const FIRST: &str = "29.02.2000 12:00:00.0000";
 /// The stamp of it.
 const NOON: i64 = 36_585 * DAY + DAY / 2;
 /// Lines in which every byte stands in every place.
-const LINES: [&str; 4] = [
+const LINES: [&str; 5] = [
     "29.02.2000 12:00:00.0001 CAN #1 | Rx 7ff 0\r\n",
     "29.02.2000 12:00:00.0001 CANExt #16 | EXTENDED Tx 1FFFFFFF 8 00 11 22 33 44 55 66 77\n",
     "29.02.2000  12:00:00.0001  CAN  #10  |  Tx  0aF  2  aB  00\n",
     "13.10.2173 23:59:59.9999 CANExt #9 | EXTENDED Rx 00000000 1 fF\r\n",
+    "30.12.1899 00:00:00.0000 CAN #0 | Tx 000 0\n",
 ];
 
 pub fn every_ascii(runs: &mut Runs) -> Checked {
@@ -103,7 +105,7 @@ fn channels(runs: &mut Runs) -> Checked {
         let number = std::str::from_utf8(channel).ok();
         let number = number.and_then(|digits| digits.parse::<u64>().ok());
         let good = number.is_some_and(|n| n.to_string().as_bytes() == channel);
-        let good = good && number.is_some_and(|n| (1..=16).contains(&n));
+        let good = good && number.is_some_and(|n| n <= LAST_CHANNEL);
         let line = at_noon(good, [0, number.unwrap_or(0), 1, 0, 0x7FF, 0, 0]);
         let text = [FIRST.as_bytes(), b" CAN #", channel, b" | Tx 7ff 0\n"].concat();
         // A blank more, or an LF or CR, which gives other lines.

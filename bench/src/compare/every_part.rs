@@ -32,12 +32,12 @@ type Part = (&'static str, Meaning);
 const LINES: [&str; 5] = [
     "29.02.2000 12:00:00.0000 CAN #1 | Rx 7ff 0",
     "29.02.2000 12:00:00.0001 CAN #16 | Tx 123 2 a0 FF",
-    "29.02.2000 12:00:00.0001 CANExt #1 | EXTENDED Tx 00000123 0",
+    "29.02.2000 12:00:00.0001 CANExt #0 | EXTENDED Tx 00000123 0",
     "29.02.2000 12:00:00.0000 CANExt #16 | EXTENDED Rx 1FFFFFFF 1 a0",
     "29.02.2000 12:00:00.0001 CANExt #1 | EXTENDED Rx 00000123 8 00 FF a0 FF 00 a0 00 FF",
 ];
 /// Parts of each kind. No two kinds have a spelling in common.
-const GOOD: [Part; 26] = [
+const GOOD: [Part; 27] = [
     ("30.12.1899", Date(0)),
     ("29.02.2000", Date(36_585)),
     ("13.10.2173", Date(99_999)),
@@ -45,6 +45,7 @@ const GOOD: [Part; 26] = [
     ("12:00:00.0001", Time(DAY / 2 + 1)),
     ("CAN", Type(0)),
     ("CANExt", Type(1)),
+    ("#0", Channel(0)),
     ("#1", Channel(1)),
     ("#16", Channel(16)),
     ("|", Bar),
@@ -67,7 +68,7 @@ const GOOD: [Part; 26] = [
 ];
 /// Parts that no line has, and those that look like one.
 const WRONG: &str = "29.02.1900 29.12.1899 14.10.2173 29.2.2000 24:00:00.0000 12:00:60.0000 12:00:00.000 12:00:00 can Can CANext CANEXT CANEx \
-    CANFD #0 #17 #01 # ## 1# || I extended Extended EXT EXTENDEDRx rx RX tx TX R RxTx RTR Error 800 fff 0123 07ff 12g 20000000 0000123 \
+    CANFD #00 #17 #01 # ## 1# 0# || I extended Extended EXT EXTENDEDRx rx RX tx TX R RxTx RTR Error 800 fff 0123 07ff 12g 20000000 0000123 \
     000000123 0x000123 9 -1 +1 g0 0g 000a . ;";
 
 pub fn every_part(runs: &mut Runs) -> Checked {

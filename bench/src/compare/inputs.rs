@@ -3,10 +3,11 @@
 use super::ascii::one_text;
 use super::runs::Runs;
 use super::Checked;
+use crate::inputs::channels::any_channel;
 use crate::inputs::damage::{damage, damage_records};
 use crate::inputs::numbers::any_first;
 use crate::inputs::random::Random;
-use crate::inputs::records::{changed, packed, packed_all, record};
+use crate::inputs::records::{changed, packed, packed_all, record, Fields};
 use crate::inputs::spelling::Spelled;
 use crate::inputs::{noise, LAST_START};
 
@@ -14,6 +15,11 @@ use crate::inputs::{noise, LAST_START};
 const ASCII: usize = 45;
 /// Single records come so many at a time.
 const RECORDS: usize = 8;
+/// Each list of records is exported so many times, with any channel.
+const CHANNELS: usize = 3;
+
+/// The versions of records that are exported together: all on bus 0, none on it, and any.
+pub const VERSIONS: [&[u64]; 3] = [&[11], &[12], &[11, 12]];
 
 pub fn one_input(runs: &mut Runs) -> Checked {
     if runs.random.below(100) < ASCII {
@@ -68,7 +74,7 @@ fn read(runs: &mut Runs, kind: &'static str, make: fn(&mut Random) -> Vec<u8>) -
 fn write(runs: &mut Runs) -> Checked {
     let random = &mut runs.random;
     let version = random.pick(&[11, 12]);
-    let (good, records) = list(random, u64::from(version));
+    let (good, records) = list(random, &[u64::from(version)]);
     let kind = if good {
         "write: good records"
     } else {
@@ -86,28 +92,32 @@ fn write(runs: &mut Runs) -> Checked {
 
 fn export(runs: &mut Runs) -> Checked {
     let random = &mut runs.random;
-    let version = random.pick(&[11, 12]);
-    let (good, records) = list(random, version);
+    let versions = random.pick(&VERSIONS);
+    let (good, records) = list(random, versions);
     let kind = if good {
         "export: good records"
     } else {
         "export: other records"
     };
     let start = start(random);
-    runs.export(kind, start, &records)?;
+    for _ in 0..CHANNELS {
+        let channel = any_channel(&mut runs.random);
+        runs.export(kind, start, channel, &records, good)?;
+    }
     Ok(())
 }
 
-/// Packed records, and whether they are good for the version.
-fn list(random: &mut Random, version: u64) -> (bool, Vec<u8>) {
+/// Packed records, and whether each is good for one of the versions.
+fn list(random: &mut Random, versions: &[u64]) -> (bool, Vec<u8>) {
     let most = random.pick(&[3, 3, 10, 10, 50]);
     let count = random.below(most);
-    let rows: Vec<_> = (0..count).map(|_| record(random, version)).collect();
+    let rows: Vec<_> = (0..count).map(|_| of_version(random, versions)).collect();
     let mut records = packed_all(&rows);
     match random.below(6) {
         0..=2 => return (true, records),
         3 => damage_records(random, &mut records),
         4 => {
+            let version = random.pick(versions);
             records.extend(packed(&record(random, 23 - version)));
             records.extend(packed(&record(random, version)));
             if random.once_in(2) {
@@ -117,6 +127,12 @@ fn list(random: &mut Random, version: u64) -> (bool, Vec<u8>) {
         _ => records = (0..20 * count).map(|_| random.byte()).collect(),
     }
     (false, records)
+}
+
+/// A record that one of the versions can carry.
+pub fn of_version(random: &mut Random, versions: &[u64]) -> Fields {
+    let version = random.pick(versions);
+    record(random, version)
 }
 
 /// Any start, at times one past the last.

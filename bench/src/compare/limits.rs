@@ -6,7 +6,7 @@ use crate::inputs::numbers::Numbers;
 use crate::inputs::records::{record, Fields};
 use crate::inputs::spelling::Spelled;
 use crate::inputs::style::Style;
-use crate::inputs::LAST_START;
+use crate::inputs::{LAST_CHANNEL, LAST_START};
 
 const LONGEST_TEXT: usize = 134_217_728;
 const MOST_ROWS: usize = 999_999;
@@ -45,8 +45,11 @@ fn lists(runs: &mut Runs, version: u32, records: &[u8]) -> Checked {
         let list = [records, &vec![0; more]].concat();
         let written = runs.write(KIND, version, LAST_START, 1, &list)?;
         expect("records written", number, 0, &written)?;
-        let exported = runs.export(KIND, LAST_START, &list)?;
-        expect("records exported", number, 0, &exported)?;
+        for (channel, past) in [(LAST_CHANNEL, 0), (LAST_CHANNEL + 1, 35)] {
+            let number = if more == 0 { past } else { 20 };
+            let (exported, _) = runs.export(KIND, LAST_START, channel, &list, more == 0)?;
+            expect("records exported", number, 0, &exported)?;
+        }
     }
     for (first, left_out, number) in [(0, 0, 26), (2, 0, 26), (2, 1, 0), (3, 1, 26)] {
         let list = &records[20 * left_out..];

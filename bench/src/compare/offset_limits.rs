@@ -5,8 +5,9 @@ use super::limits::{expect, spelled};
 use super::runs::Runs;
 use super::{Checked, Difference};
 use crate::inputs::ascii::Line;
+use crate::inputs::channels::good_channel;
 use crate::inputs::records::{packed, Fields};
-use crate::inputs::style::{offset_text, Style};
+use crate::inputs::style::offset_text;
 use crate::inputs::{LAST_NUMBER, LAST_OFFSET, LAST_START};
 use std::collections::BTreeSet;
 
@@ -105,15 +106,14 @@ fn written(runs: &mut Runs, offset: u64) -> Checked {
     Ok(())
 }
 
-/// The export of a record, as the inputs' own calendar says it.
+/// The export of a record, on bus 0 and on another.
 fn exported(runs: &mut Runs, start: u64, offset: u64) -> Checked {
-    let fields = frame(16, offset);
-    let text = runs.exported(start, &packed(&fields))?;
-    let line = Line::of_record(start, &fields);
-    let parts = line.map(|line| line.parts(&mut runs.random, &Style::plain()));
-    let line = parts.map(|parts| parts.join(" ") + "\r\n");
-    let good = line.is_some_and(|line| line.as_bytes() == text);
-    must(good, "another line is exported", offset)
+    for bus in [0, 16] {
+        let channel = good_channel(&mut runs.random);
+        let record = packed(&frame(bus, offset));
+        runs.export("export: offset limits", start, channel, &record, true)?;
+    }
+    Ok(())
 }
 
 /// A line of ASCII so far from the start, which is cut off the first line's stamp.

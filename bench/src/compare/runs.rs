@@ -4,11 +4,12 @@ use super::both::Both;
 use super::tally::Tally;
 use super::{shown, Difference};
 use crate::inputs::ascii::LEAST;
+use crate::inputs::channels::{any_channel, exported, refused, Exported};
 use crate::inputs::random::Random;
 use crate::inputs::records::Fields;
-use crate::inputs::LAST_NUMBER;
+use crate::inputs::{LAST_CHANNEL, LAST_NUMBER};
 use bushingowl::{explain_refusal, Reason, Refused, RowFault};
-use bushingowl::{LEAST_ROW, MOST_HEADER, MOST_LINE, MOST_ROW, RECORD};
+use bushingowl::{CHANNEL_AS_BUS, LEAST_ROW, MOST_HEADER, MOST_LINE, MOST_ROW, RECORD};
 
 pub struct Runs {
     pub random: Random,
@@ -53,7 +54,7 @@ impl Runs {
         Ok(answer)
     }
 
-    /// What was read must be written with its first number, and then read as the same. It can be exported, too.
+    /// What was read must be written with its first number, and then read as the same. It can be exported, too, with any channel.
     fn there_and_back(&mut self, records: &[u8], answer: [u64; 7]) -> Result<(), Difference> {
         let [_, _, version, start, _, _, first] = answer;
         let most = MOST_HEADER + records.len() / RECORD * MOST_ROW;
@@ -66,10 +67,10 @@ impl Runs {
         if again != answer || self.both.output(records.len()) != records {
             return Err(self.wrong("what was written is not read as the same", &text));
         }
+        let (kind, channel) = ("exported after reading", any_channel(&mut self.random));
         let most = records.len() / RECORD * MOST_LINE;
-        let exported = self.both.export(start, records, most)?;
-        self.tally.count("exported after reading", exported[0]);
-        Ok(())
+        let known = exported(start, channel, records);
+        self.export_into(kind, start, channel, records, most, &known)
     }
 
     pub fn write(
@@ -100,30 +101,63 @@ impl Runs {
         Ok(answer)
     }
 
+    /// Exports records, and gives the answer and the lines. Of good records it is known that all are well formed.
     pub fn export(
         &mut self,
         kind: &'static str,
         start: u64,
+        channel: u64,
         records: &[u8],
-    ) -> Result<[u64; 5], Difference> {
+        good: bool,
+    ) -> Result<Exported, Difference> {
         let most = (records.len() / RECORD + 1) * MOST_LINE;
-        let answer = self.both.export(start, records, most)?;
-        self.tally.count(kind, answer[0]);
-        let room = self.other_room(answer[2] as usize);
-        let again = self.both.export(start, records, room)?;
-        self.tally.count("exported into other room", again[0]);
-        Ok(answer)
+        let answer = self.both.export(start, channel, records, most)?;
+        let known = match answer[0] {
+            23 if !good && refused(start, channel, records.len()).is_none() => (answer, Vec::new()),
+            _ => exported(start, channel, records),
+        };
+        self.judge_export(kind, channel, records, answer, &known)?;
+        let room = self.other_room(known.1.len());
+        let kind = "exported into other room";
+        self.export_into(kind, start, channel, records, room, &known)?;
+        Ok(known)
     }
 
-    /// The text of an export that is accepted.
-    pub fn exported(&mut self, start: u64, records: &[u8]) -> Result<Vec<u8>, Difference> {
-        let answer = self.export("export: to be read back", start, records)?;
-        let most = records.len() / RECORD * MOST_LINE;
-        let again = self.both.export(start, records, most)?;
-        match answer == again && answer[0] == 0 {
-            true => Ok(self.both.output(answer[2] as usize).to_vec()),
-            false => Err(self.wrong("good records are not exported", records)),
+    /// Exports records into some room. What must come of it is known: the answer and the lines, if there is room for them.
+    pub fn export_into(
+        &mut self,
+        kind: &'static str,
+        start: u64,
+        channel: u64,
+        records: &[u8],
+        room: usize,
+        known: &Exported,
+    ) -> Result<(), Difference> {
+        let answer = self.both.export(start, channel, records, room)?;
+        match room < known.1.len() {
+            true => {
+                let short = ([25, 0, 0, 0, 0], Vec::new());
+                self.judge_export(kind, channel, records, answer, &short)
+            }
+            false => self.judge_export(kind, channel, records, answer, known),
         }
+    }
+
+    /// The export just made must have given what is known.
+    fn judge_export(
+        &mut self,
+        kind: &'static str,
+        channel: u64,
+        records: &[u8],
+        answer: [u64; 5],
+        known: &Exported,
+    ) -> Result<(), Difference> {
+        self.tally.count_export(kind, answer[0]);
+        if answer == known.0 && self.both.output(known.1.len()) == known.1 {
+            return Ok(());
+        }
+        let what = format!("with channel {channel} {answer:?}, or other lines");
+        Err(self.wrong(&format!("{what}; {:?} is known", known.0), records))
     }
 
     /// Reads Telemotive ASCII. What must come of it may be known: the answer and the records.
@@ -155,7 +189,8 @@ impl Runs {
         Ok(answer)
     }
 
-    /// What was read must be exported as the same lines in house spelling, and those must be read as the same.
+    /// What was read must be exported as the same lines in house spelling, and those must be read as the same. With another channel than 0 for
+    /// bus 0 they have that one in place of 0, and so has what is read.
     fn exported_and_back(
         &mut self,
         text: &[u8],
@@ -163,21 +198,21 @@ impl Runs {
         answer: [u64; 4],
     ) -> Result<(), Difference> {
         let [_, _, start, lines] = answer;
-        let house = house_spelling(text);
-        let exported = self.both.export(start, records, house.len())?;
-        self.tally
-            .count("exported after reading ASCII", exported[0]);
-        let bytes = house.len() as u64;
-        if exported != [0, 0, bytes, lines, 0] || self.both.output(house.len()) != house {
-            return Err(self.wrong("the export of what was read has other lines", text));
+        let other = self.random.between(1, LAST_CHANNEL as usize) as u64;
+        for channel in [CHANNEL_AS_BUS, other] {
+            let kind = "exported after reading ASCII";
+            let house = house_spelling(text, channel);
+            let room = house.len();
+            let known = ([0, 0, room as u64, lines, 0], house);
+            self.export_into(kind, start, channel, records, room, &known)?;
+            let again = self.both.read_ascii(&known.1, records.len())?;
+            self.tally
+                .count_ascii("ascii: read after exporting", again[0]);
+            if again != answer || self.both.output(records.len()) != on_bus(records, channel) {
+                return Err(self.wrong("what was exported is not read as the same", &known.1));
+            }
         }
-        let again = self.both.read_ascii(&house, records.len())?;
-        self.tally
-            .count_ascii("ascii: read after exporting", again[0]);
-        match again == answer && self.both.output(records.len()) == records {
-            true => Ok(()),
-            false => Err(self.wrong("what was exported is not read as the same", &house)),
-        }
+        Ok(())
     }
 
     pub fn unpack(&mut self, kind: &'static str, record: &[u8]) -> Result<[u64; 9], Difference> {
@@ -310,16 +345,18 @@ impl Runs {
     }
 }
 
-/// Lines with one blank between two parts, small hexadecimal letters, which stand behind the direction only, and CR LF.
-fn house_spelling(text: &[u8]) -> Vec<u8> {
+/// Lines with one blank between two parts, small hexadecimal letters, which stand behind the direction only, CR LF, and another channel for 0.
+fn house_spelling(text: &[u8], channel: u64) -> Vec<u8> {
+    let channel = format!("#{channel}");
     let mut house = Vec::with_capacity(text.len());
     for line in text.split_inclusive(|&byte| byte == b'\n') {
         let mut small = false;
         let parts = line.split(|byte| b" \r\n".contains(byte));
         for part in parts.filter(|part| !part.is_empty()) {
-            match small {
-                true => house.extend(part.to_ascii_lowercase()),
-                false => house.extend(part),
+            match part {
+                b"#0" => house.extend(channel.as_bytes()),
+                _ if small => house.extend(part.to_ascii_lowercase()),
+                _ => house.extend(part),
             }
             house.push(b' ');
             small |= matches!(part, b"Rx" | b"Tx");
@@ -328,6 +365,17 @@ fn house_spelling(text: &[u8]) -> Vec<u8> {
         house.extend(b"\r\n");
     }
     house
+}
+
+/// Records with another bus for 0. The bus is the first five bits behind the offset.
+fn on_bus(records: &[u8], bus: u64) -> Vec<u8> {
+    let mut records = records.to_vec();
+    for record in records.chunks_mut(RECORD) {
+        if record[6] >> 3 == 0 {
+            record[6] |= (bus as u8) << 3;
+        }
+    }
+    records
 }
 
 /// The number of a row.

@@ -4,11 +4,12 @@ use std::collections::BTreeMap;
 use std::ops::RangeInclusive;
 
 /// The numbers that must be seen.
-const NUMBERS: [u64; 21] = [
-    0, 1, 2, 3, 4, 5, 6, 7, 8, 20, 21, 22, 23, 24, 25, 26, 30, 31, 32, 33, 34,
+const NUMBERS: [u64; 22] = [
+    0, 1, 2, 3, 4, 5, 6, 7, 8, 20, 21, 22, 23, 24, 25, 26, 30, 31, 32, 33, 34, 35,
 ];
-/// Those that must be seen of the reader of ASCII.
+/// Those that must be seen of the reader of ASCII, and of the export.
 const ASCII: [u64; 7] = [0, 1, 8, 31, 32, 33, 34];
+const EXPORT: [u64; 6] = [0, 20, 22, 23, 25, 35];
 /// The fields that must be seen as wrong, the last with all behind it, and those after which a line must have ended early.
 const WRONG: RangeInclusive<usize> = 1..=15;
 const EARLY: RangeInclusive<usize> = 0..=13;
@@ -21,24 +22,27 @@ pub struct Tally {
     kinds: BTreeMap<&'static str, Counts>,
     /// All calls of the reader of ASCII, which are among the kinds, too.
     ascii: Counts,
+    /// All calls of the export, which are among the kinds, too.
+    export: Counts,
     /// How often each field was given with each of the two reasons.
     fields: [[u64; 16]; 2],
 }
 
 impl Tally {
     pub fn count(&mut self, kind: &'static str, number: u64) {
-        let counts = self.kinds.entry(kind).or_default();
-        if let Some(column) = NUMBERS.iter().position(|&n| n == number) {
-            counts[column] += 1;
-        }
+        add(self.kinds.entry(kind).or_default(), number);
     }
 
     /// A call of the reader of ASCII.
     pub fn count_ascii(&mut self, kind: &'static str, number: u64) {
         self.count(kind, number);
-        if let Some(column) = NUMBERS.iter().position(|&n| n == number) {
-            self.ascii[column] += 1;
-        }
+        add(&mut self.ascii, number);
+    }
+
+    /// A call of the export.
+    pub fn count_export(&mut self, kind: &'static str, number: u64) {
+        self.count(kind, number);
+        add(&mut self.export, number);
     }
 
     pub fn explained(&mut self, reason: u64, field: u64) {
@@ -48,20 +52,18 @@ impl Tally {
         }
     }
 
-    /// The numbers, those of the reader of ASCII, and the fields with each reason, that were never given.
+    /// The numbers, those of the reader of ASCII and of the export, and the fields with each reason, that were never given.
     pub fn unseen(&self) -> Vec<String> {
         let [wrong, early] = self.fields;
-        let numbers = NUMBERS.iter().zip(self.sums());
-        let numbers = numbers.filter(|(_, sum)| *sum == 0);
-        let numbers = numbers.map(|(number, _)| number.to_string());
-        let ascii = NUMBERS.iter().zip(self.ascii);
-        let ascii = ascii.filter(|(number, sum)| *sum == 0 && ASCII.contains(number));
-        let ascii = ascii.map(|(number, _)| format!("{number} for ASCII"));
+        let numbers = never(&NUMBERS, self.sums()).map(|number| number.to_string());
+        let ascii = never(&ASCII, self.ascii).map(|number| format!("{number} for ASCII"));
+        let export = never(&EXPORT, self.export).map(|number| format!("{number} for an export"));
         let wrong = WRONG.filter(|&field| wrong[field] == 0);
         let wrong = wrong.map(|field| format!("wrong field {field}"));
         let early = EARLY.filter(|&field| early[field] == 0);
         let early = early.map(|field| format!("ended early after field {field}"));
-        numbers.chain(ascii).chain(wrong).chain(early).collect()
+        let numbers = numbers.chain(ascii).chain(export);
+        numbers.chain(wrong).chain(early).collect()
     }
 
     pub fn print(&self) {
@@ -72,6 +74,7 @@ impl Tally {
             print_counts(kind, counts);
         }
         print_counts("all ascii", &self.ascii);
+        print_counts("all exports", &self.export);
         print_counts("all", &self.sums());
         let last = WRONG.end();
         let names = (0..*last).map(|field| field.to_string());
@@ -93,6 +96,19 @@ impl Tally {
         }
         sums
     }
+}
+
+fn add(counts: &mut Counts, number: u64) {
+    if let Some(column) = NUMBERS.iter().position(|&n| n == number) {
+        counts[column] += 1;
+    }
+}
+
+/// Those of some numbers that were never given.
+fn never(numbers: &'static [u64], counts: Counts) -> impl Iterator<Item = u64> {
+    let counted = NUMBERS.iter().copied().zip(counts);
+    let never = counted.filter(|(number, count)| *count == 0 && numbers.contains(number));
+    never.map(|(number, _)| number)
 }
 
 fn print_counts(kind: &str, counts: &[u64]) {

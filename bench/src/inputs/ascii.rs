@@ -1,5 +1,6 @@
 //! Lines of Telemotive ASCII at random, and what a reader must make of them.
 
+use super::channels::{channel_of, good_channel};
 use super::random::Random;
 use super::records::{frame, packed, Fields};
 use super::style::Style;
@@ -30,29 +31,48 @@ pub struct Line {
 }
 
 impl Line {
-    /// Any frame on any channel.
+    /// Any frame on any channel, which is its bus.
     pub fn new(random: &mut Random, stamp: i64) -> Self {
         let kind = random.pick(&[0, 1]);
         let [kind, extended, id, length, data] = frame(random, kind);
-        let bus = random.between(1, 16) as u64;
+        let bus = good_channel(random);
         Line {
             stamp,
             fields: [0, bus, kind, extended, id, length, data],
         }
     }
 
-    /// The line of a record in an export, if it has one.
-    pub fn of_record(start: u64, record: &Fields) -> Option<Self> {
+    /// The line of a record in an export, if it has one. The channel is that of bus 0.
+    pub fn of_record(start: u64, channel: u64, record: &Fields) -> Option<Self> {
         let [offset, bus, kind, rest @ ..] = *record;
         let [extended, id, length, data] = rest;
         (kind < 2).then_some(Line {
             stamp: (start * 10 + offset / 100) as i64,
-            fields: [0, bus.max(1), kind, extended, id, length, data],
+            fields: [
+                0,
+                channel_of(bus, channel),
+                kind,
+                extended,
+                id,
+                length,
+                data,
+            ],
         })
     }
 
     /// The parts of the line, with the letter case of a style.
     pub fn parts(&self, random: &mut Random, style: &Style) -> Vec<String> {
+        self.parts_with(|digits| style.cased(random, &digits))
+    }
+
+    /// The line as an export has it, with its end.
+    pub fn exported(&self) -> String {
+        let parts = self.parts_with(|digits| digits.to_ascii_lowercase());
+        parts.join(" ") + "\r\n"
+    }
+
+    /// The parts of the line, with hexadecimal digits, which are capitals first, in some letter case.
+    fn parts_with(&self, mut cased: impl FnMut(String) -> String) -> Vec<String> {
         let [_, bus, kind, extended, id, length, data] = self.fields;
         let mut parts = vec![date_text(self.stamp), time_text(self.stamp)];
         parts.push(["CAN", "CANExt"][extended as usize].to_string());
@@ -62,13 +82,12 @@ impl Line {
         }
         parts.push(["Rx", "Tx"][kind as usize].to_string());
         parts.push(match extended {
-            0 => style.cased(random, &format!("{id:03X}")),
-            _ => style.cased(random, &format!("{id:08X}")),
+            0 => cased(format!("{id:03X}")),
+            _ => cased(format!("{id:08X}")),
         });
         parts.push(length.to_string());
-        let bytes = &data.to_be_bytes()[..length as usize];
-        let bytes = bytes.iter().map(|byte| format!("{byte:02X}"));
-        parts.extend(bytes.map(|byte| style.cased(random, &byte)));
+        let bytes = data.to_be_bytes().into_iter().take(length as usize);
+        parts.extend(bytes.map(|byte| cased(format!("{byte:02X}"))));
         parts
     }
 }

@@ -10,7 +10,7 @@ const ALPHABET: &[u8] = b"0123456789ABCDEFabcdef    ..::##||RxTxCANExtEXTENDED\r
 const WORDS: &str = "0|1|2|7|8|9|00|01|0a|0A|fF|g0|10|\
     29.02.2000|29.02.1900|29.02.2100|28.02.1900|29.12.1899|30.12.1899|13.10.2173|14.10.2173|00.01.2000|31.12.1999|32.12.1999|\
     01.13.2000|01.00.2000|1.1.2000|12:00:00.0000|00:00:00.0000|23:59:59.9999|24:00:00.0000|23:60:00.0000|23:59:60.0000|12:00:00.000|\
-    CAN|CANExt|can|CANEXT|CAN#1|#1|#2|#9|#10|#16|#17|#0|#01|#016|#|#1|EXTENDED|extended|EXTENDE|Rx|Tx|rx|RX|RTR|Error|\
+    CAN|CANExt|can|CANEXT|CAN#1|#1|#2|#9|#10|#16|#17|#0|#00|#01|#016|#|#1|EXTENDED|extended|EXTENDE|Rx|Tx|rx|RX|RTR|Error|\
     000|123|7ff|7FF|800|0123|12|00000123|1fffffff|1FFFFFFF|20000000|1ffffff|1fffffff0";
 /// What may stand where a line should end.
 const ENDS: &str = "\r|\n||\n\r|\r\r\n|\r\n\n|\r\n\r\n|\r \n| \r\n|\0\r\n|\n\n| \n|\r\n|\n";
@@ -145,7 +145,7 @@ pub fn words(random: &mut Random) -> Vec<u8> {
             true => add(random, "CANExt|CANExt|CANExt|CANExt|CANExt|CAN"),
             false => add(random, "CAN|CAN|CAN|CAN|CAN|CAN|CANExt"),
         }
-        add(random, "#1|#2|#9|#10|#15|#16|#17|#0");
+        add(random, "#0|#0|#1|#2|#9|#10|#15|#16|#17|#00");
         parts.push("|".to_string());
         let mut add = |random: &mut Random, words: &str| parts.push(random.word(words).to_string());
         if extended {

@@ -3,6 +3,7 @@
 pub mod ascii;
 pub mod ascii_damage;
 pub mod ascii_spoiled;
+pub mod channels;
 pub mod damage;
 pub mod lines;
 pub mod noise;
@@ -19,3 +20,5 @@ pub const LAST_NUMBER: u64 = 999_999;
 pub const LAST_START: u64 = 8_639_999_999_999;
 /// The largest offset in microseconds.
 pub const LAST_OFFSET: u64 = 281_474_976_710_655;
+/// The last channel, and the last bus.
+pub const LAST_CHANNEL: u64 = 16;

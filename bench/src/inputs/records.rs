@@ -99,6 +99,19 @@ pub fn packed(fields: &Fields) -> [u8; 20] {
     record
 }
 
+/// Takes a record apart bit by bit; the last six bits are left out.
+pub fn unpacked(record: &[u8; 20]) -> Fields {
+    let mut at = 0;
+    WIDTHS.map(|width| {
+        let mut value = 0;
+        for _ in 0..width {
+            value = value << 1 | u64::from(record[at / 8] >> (7 - at % 8) & 1);
+            at += 1;
+        }
+        value
+    })
+}
+
 /// All records, packed one after the other.
 pub fn packed_all(rows: &[Fields]) -> Vec<u8> {
     rows.iter().flat_map(packed).collect()
