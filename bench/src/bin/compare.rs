@@ -1,6 +1,7 @@
 //! Compares the library with the expert: `compare [INPUTS [SEED]]`.
 
 use bushingowl_bench::compare::ascii_limits::ascii_limits;
+use bushingowl_bench::compare::channels::channels;
 use bushingowl_bench::compare::every_ascii::every_ascii;
 use bushingowl_bench::compare::every_field::every_field;
 use bushingowl_bench::compare::every_part::every_part;
@@ -42,6 +43,9 @@ fn main() -> ExitCode {
     }
     if let Err(difference) = offset_limits(&mut runs) {
         return differs("offset limits", &difference);
+    }
+    if let Err(difference) = channels(&mut runs) {
+        return differs("channels", &difference);
     }
     if let Err(difference) = every_field(&mut runs).and_then(|()| long_lines(&mut runs)) {
         return differs("short fields and long lines", &difference);

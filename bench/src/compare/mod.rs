@@ -3,6 +3,7 @@
 mod ascii;
 pub mod ascii_limits;
 mod both;
+pub mod channels;
 pub mod every_ascii;
 pub mod every_field;
 pub mod every_part;
