@@ -130,13 +130,14 @@ fn two_parts(runs: &mut Runs, line: &[Part]) -> Checked {
     Ok(())
 }
 
-/// Each gap with any blanks, up to some more than the line may have, and either end.
+/// Each gap with any blanks, from none up to some more than the line may have, and either end.
 fn gaps(runs: &mut Runs, line: &[Part]) -> Checked {
     for gap in 1..line.len() {
         let [before, after] = [&line[..gap], &line[gap..]].map(|parts| spelled(parts, " "));
-        for length in before.len() + 1 + after.len()..=LONGEST + 10 {
-            let blanks = " ".repeat(length - before.len() - after.len());
-            let meant = meant(line).filter(|_| length <= LONGEST);
+        let joined = before.len() + after.len();
+        for length in joined..=LONGEST + 10 {
+            let blanks = " ".repeat(length - joined);
+            let meant = meant(line).filter(|_| length > joined && length <= LONGEST);
             for end in ["\n", "\r\n"] {
                 let text = [&before, &blanks, &after, end].concat();
                 read_line(runs, "ascii: every gap", &text, meant.clone())?;
