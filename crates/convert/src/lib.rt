@@ -14,7 +14,7 @@ ghost use Rattle.convert.specs.Promise.{refusalText, ConvertPromise};
 pub const INPUT_LIMIT: usize = 65_536;
 
 // The channel that bus 0 is printed as.
-const CHANNEL: u64 = 1;
+const BENCH_CHANNEL: u64 = 1;
 
 // How many bytes of the page are to be printed; or what was lent is too short, which is no refusal of the input.
 pub enum Printed {
@@ -58,7 +58,7 @@ pub fn convert(input: &[u8], records: &mut [u8], page: &mut [u8]) -> Printed
             first: _,
         } => {
             let end = (20 * rows) as usize;
-            let e = export(start, CHANNEL, &records[0..end], page);
+            let e = export(start, BENCH_CHANNEL, &records[0..end], page);
             match e {
                 Exported::Done {
                     bytes,

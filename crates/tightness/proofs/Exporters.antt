@@ -1,5 +1,5 @@
 -- An exporter that keeps its promise counts the records of kinds 0 and 1, and the others, and writes bus 0 as the channel that it is given.
-use Prim.Native.Nat.{ℕ, _≤_}
+use Prim.Native.Nat.{ℕ, _*_, _≤_}
 use mathlib.Core.Path.{_≡_, refl, ap, sym, _∙_}
 use mathlib.Core.Logic.{⊎-elim}
 use mathlib.Core.List.{List, [], _∷_, _++_}
@@ -7,23 +7,22 @@ use native.Mathlib.Omega.{arith}
 use lib.ListN.{length, take, drop, length-replicate}
 use lib.Seq.{take-at}
 use Rattle.base.specs.Limits.{lastBus}
-use Rattle.clock.specs.declared.DateTime.{DateTime}
 use Rattle.clock.proofs.Stamps.{some-stamp}
 use Rattle.record.specs.declared.Record.{Record}
-use Rattle.record.specs.Record.{WellFormed}
-use Rattle.record.proofs.Frames.{frame-formed}
-use Rattle.records.specs.Records.{packed, PacksAll, more}
-use Rattle.records.specs.Records.{none as no-records}
-use Rattle.records.proofs.Packing.{packed-length}
+use Rattle.records.specs.Records.{packed, PacksAll}
 use Rattle.records.proofs.Records.{packs-all-one}
-use Rattle.ascii.specs.Promise.{lineOf, Exports, lineCount, leftCount, Given, ExportPromise}
+use Rattle.trace.specs.Trace.{Trace}
+use Rattle.ascii_line.specs.Line.{lineText}
+use Rattle.ascii.specs.Promise.{lineOf, Exports, lineCount, leftCount, ExportPromise}
 use Rattle.ascii.proofs.Answers.{stopped-number, exports}
 use Rattle.ascii.proofs.Channels.{given-channel, own-channel}
 use Rattle.ascii.proofs.Exporting.{exports-one, exports-line, export-most, frame-line, frame-left}
-use Rattle.tightness.specs.Programs.{Lent, Exporter, KeepsExport, exportedText}
+use Rattle.tightness.specs.Programs.{Lent, FromExporter, Exporter, five, KeepsExport, exportedText}
+use Rattle.tightness.specs.Tight.{receivedOn, received12, Tried, one, no-bus}
 use Rattle.tightness.specs.Wrong.{Counted, none, frame, other, InventsLeftOut, GivesOne, GivesAll}
 use Rattle.tightness.proofs.ExportChannels.{channel-told}
-use Rattle.tightness.proofs.Tried.{zeros, packed-small}
+use Rattle.tightness.proofs.Real.{some-export, given}
+use Rattle.tightness.proofs.Tried.{writable, zeros, recordsOf}
 
 -- The promise counts by that definition.
 counts : {rs : List Record} {lines left : ℕ} → Counted rs lines left → (lineCount rs ≡ lines) × (leftCount rs ≡ left)
@@ -55,54 +54,47 @@ module _ {e : Exporter} (k : KeepsExport e) where
       let m = made (k .keeps (i .start) (i .channel) (i .given) (i .out)) (i .accepted) (i .packs) in
       ⊎-elim (λ f. f (m .lines-true ∙ a)) (λ f. f (m .left-true ∙ b)) (i .invented)
 
-  -- One data frame, without its bus or with bus 1, on a channel up to 16, in a page for its line.
-  module _ (bus channel : ℕ) (b : bus ≤ lastBus) (c : channel ≤ lastBus) where
-    abbrev one : Record
-    one = record { offset = 0; bus = bus; kind = 0; extended = 0; id = 1; len = 0; «data» = 0 }
+  -- A trace that is tried, on a channel up to 16, in a page for its lines.
+  module _ {t : Trace} (w : Tried t) (channel : ℕ) (c : channel ≤ lastBus) where
+    abbrev records : Lent
+    records = recordsOf t
 
-    abbrev list : Lent
-    list = record { list = packed (one ∷ []); small = packed-small (one ∷ []) }
+    abbrev page : Lent
+    page = zeros (86 * length (t .records))
 
-    abbrev stamp : DateTime
-    stamp = some-stamp 0 0 .0
+    abbrev answer : FromExporter
+    answer = e (t .start) channel records page
 
-    formed : WellFormed one
-    formed = frame-formed one (omega arith) (omega arith) b (omega arith) (λ h. omega arith) (omega arith) (omega arith) (omega arith) refl (λ h. refl)
+    keeps : ExportPromise (t .start) channel (packed (t .records)) (page .list) (five answer) (answer .after)
+    keeps = k .keeps (t .start) channel records page
 
-    packs : PacksAll (one ∷ []) (list .list)
-    packs = record { formed = more formed no-records; bytes = refl }
-
-    written : Exports 0 channel (one ∷ []) (lineOf channel stamp one)
-    written = exports-line (omega arith) (some-stamp 0 0 .1)
-
-    is-given : Given 0 channel (list .list) (one ∷ []) (lineOf channel stamp one)
-    is-given = record {
-      whole = let l = packed-length (one ∷ []) in record { twenties = omega arith; few = omega arith };
-      limit = omega arith;
-      is-channel = c;
-      packs = packs;
-      exports = written;
-    }
-
-    accepted : e 0 channel list (zeros 86) .number ≡ 0
+    accepted : answer .number ≡ 0
     accepted =
-        let l = export-most c (packs .formed) written in
-        let x = exports is-given (omega (arith, length-replicate {A = ℕ} 86 0)) (k .keeps 0 channel list (zeros 86)) in
-        cc (x .0)
+        let (x, y) = some-export (t .start) channel (t .records) in
+        let l = export-most c (writable w .formed) y in
+        let o = exports (given w c y) (omega (arith, length-replicate {A = ℕ} (86 * length (t .records)) 0)) keeps in
+        cc (o .0)
 
-    its-line : exportedText (e 0 channel list (zeros 86)) ≡ lineOf channel stamp one
-    its-line = exports-one (made (k .keeps 0 channel list (zeros 86)) accepted packs .text) written
+    its-text : {x : List ℕ} → Exports (t .start) channel (t .records) x → exportedText answer ≡ x
+    its-text y = exports-one (made keeps accepted (given w c y .packs) .text) y
+
+  -- The line of the one frame that two of these traces have.
+  line : (bus channel : ℕ) → Exports 0 channel (receivedOn bus 0 1 ∷ []) (lineOf channel (some-stamp 0 0 .0) (receivedOn bus 0 1))
+  line bus channel = exports-line (omega arith) (some-stamp 0 0 .1)
+
+  -- Its channel is told by it.
+  told : {c d : ℕ} (bus : ℕ) → lineText (some-stamp 0 0 .0) c (receivedOn bus 0 1) ≡ lineText (some-stamp 0 0 .0) d (receivedOn bus 0 1) → c ≡ d
+  told bus q = channel-told (some-stamp 0 0 .0) (receivedOn bus 0 1) [] [] (ap (λ (l : List ℕ). l ++ []) q)
 
   pub gives-one : GivesOne e → ⊥
   gives-one h =
       let z : 0 ≤ lastBus = omega arith in
       let y : 1 ≤ lastBus = omega arith in
-      let q = sym (its-line 0 0 z z) ∙ h 0 0 (list 0 0 z z) (zeros 86) (accepted 0 0 z z) (accepted 0 1 z y) ∙ its-line 0 1 z y in
-      omega (arith, channel-told (stamp 0 0 z z) (one 0 0 z z) [] [] (ap (λ (l : List ℕ). l ++ []) q), given-channel 0 0 refl, given-channel 1 0 refl)
+      let q = h 0 0 (records no-bus 0 z) (page no-bus 0 z) (accepted no-bus 0 z) (accepted no-bus 1 y) in
+      omega (arith, told 0 (sym (its-text no-bus 0 z (line 0 0)) ∙ q ∙ its-text no-bus 1 y (line 0 1)), given-channel 0 0 refl, given-channel 1 0 refl)
 
   pub gives-all : GivesAll e → ⊥
   gives-all h =
       let z : 0 ≤ lastBus = omega arith in
-      let y : 1 ≤ lastBus = omega arith in
-      let q = sym (its-line 1 0 y z) ∙ h 0 0 (one 1 0 y z) (stamp 1 0 y z) (list 1 0 y z) (zeros 86) refl (omega arith) (some-stamp 0 0 .1) (accepted 1 0 y z) in
-      omega (arith, channel-told (stamp 1 0 y z) (one 1 0 y z) [] [] (ap (λ (l : List ℕ). l ++ []) q), own-channel 0 1 (λ e. omega arith))
+      let q = h 0 0 (received12 0 1) (some-stamp 0 0 .0) (records one 0 z) (page one 0 z) refl (omega arith) (some-stamp 0 0 .1) (accepted one 0 z) in
+      omega (arith, told 1 (sym (its-text one 0 z (line 1 0)) ∙ q), own-channel 0 1 (λ o. omega arith))

@@ -19,7 +19,7 @@ use Rattle.trace.proofs.One.{one-trace}
 use Rattle.trace.proofs.There.{there, there-size}
 use Rattle.tightness.specs.Programs.{Lent, FromReader, Reader, KeepsRead, handedOut}
 use Rattle.tightness.specs.Wrong.{RefusesAll, Always, SameVersion, SameStart, SameFirst, SameRecords, CopiesFirst, InventsRows, SaysOne}
-use Rattle.tightness.specs.Tight.{HandsOut, received12, Tried, empty, later, older, two, copied, middle}
+use Rattle.tightness.specs.Tight.{HandsOut, received12, Tried, empty, later, older, two, copied, middle, one, no-bus}
 use Rattle.tightness.proofs.Tried.{received-formed, writable, zeros, textOf}
 
 -- What spells a trace is accepted, and that trace handed out.
@@ -47,6 +47,8 @@ room older = omega arith
 room two = omega arith
 room copied = omega arith
 room middle = omega arith
+room one = omega arith
+room no-bus = omega arith
 
 -- Two records that differ are packed as other bytes.
 apart : bytes 20 (number (received12 0 2)) ≡ bytes 20 (number (received12 0 1)) → ⊥

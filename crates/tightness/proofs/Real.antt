@@ -1,10 +1,11 @@
 -- The traces that the wrong programs are tried with are real.
-use Prim.Native.Nat.{ℕ, _*_}
+use Prim.Native.Nat.{ℕ, _*_, _≤_}
 use mathlib.Core.Path.{refl}
 use mathlib.Core.List.{List, [], _∷_, _++_}
 use native.Mathlib.Decide.{decLt}
 use native.Mathlib.Omega.{arith}
 use lib.ListN.{length, drop}
+use Rattle.base.specs.Limits.{lastBus}
 use Rattle.clock.proofs.Stamps.{some-stamp}
 use Rattle.record.specs.declared.Record.{Record}
 use Rattle.records.specs.Records.{packed, Whole}
@@ -16,7 +17,7 @@ use Rattle.trace.specs.House.{traceText, Writable}
 use Rattle.trace.proofs.Numbers.{rows-numbered}
 use Rattle.trace.proofs.There.{there, there-size}
 use Rattle.trace_writer.specs.Promise.{WritePromise}
-use Rattle.ascii.specs.Promise.{Exports, none, line, left, lineCount, leftCount, ExportPromise}
+use Rattle.ascii.specs.Promise.{Exports, none, line, left, lineCount, leftCount, Given, ExportPromise}
 use Rattle.ascii.proofs.Exporting.{export-most}
 use Rattle.tightness.specs.Tight.{Tried, Real}
 use Rattle.tightness.proofs.Tried.{writable, recordsOf, textOf}
@@ -30,6 +31,13 @@ some-export start channel (r ∷ rs) =
 
 whole : {t : Trace} → Writable t → Whole (packed (t .records))
 whole {t} w = let l = packed-length (t .records) in record { twenties = omega arith; few = omega (arith, rows-numbered (w .numbered)) }
+
+-- Whatever such a trace exports to, on a channel up to 16, is what `export` is given.
+pub given : {t : Trace} {channel : ℕ} {x : List ℕ} → Tried t → channel ≤ lastBus → Exports (t .start) channel (t .records) x
+    → Given (t .start) channel (packed (t .records)) (t .records) x
+given h c e =
+    let w = writable h in
+    record { whole = whole w; limit = w .start; is-channel = c; packs = record { formed = w .formed; bytes = refl }; exports = e }
 
 pub real : {t : Trace} → Tried t → Real t
 real {t} h =
@@ -70,7 +78,6 @@ real {t} h =
               after = x ++ drop (length x) (out .list);
             },
             refl,
-            ExportPromise.done (record { whole = whole w; limit = w .start; is-channel = c; packs = record { formed = w .formed; bytes = refl }; exports = e })
-                (omega (arith, export-most c (w .formed) e)) refl refl,
+            ExportPromise.done (given h c e) (omega (arith, export-most c (w .formed) e)) refl refl,
           );
     }

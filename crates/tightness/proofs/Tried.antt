@@ -4,7 +4,7 @@ use mathlib.Core.Path.{refl}
 use mathlib.Core.List.{List, [], _∷_}
 use native.Mathlib.Omega.{arith}
 use lib.ListN.{replicate}
-use Rattle.base.specs.Limits.{offsetLimit}
+use Rattle.base.specs.Limits.{offsetLimit, lastBus}
 use Rattle.base.specs.Spaced.{spaced, joined}
 use Rattle.digits.specs.House.{glyphOf, fixed, spell, decimalText, byteTexts}
 use Rattle.clock.specs.Start.{startLimit}
@@ -17,18 +17,21 @@ use Rattle.record.proofs.Bytes.{byte-below}
 use Rattle.record.proofs.Frames.{frame-formed}
 use Rattle.records.specs.Records.{packed, none, more}
 use Rattle.row.specs.House.{numberText, offsetText, busTexts, typeText, idText, dataTexts, rowTexts}
-use Rattle.row.specs.Versions.{Version, is11, is12, Carries, v12}
+use Rattle.row.specs.Versions.{Version, is11, is12, Carries, v11, v12}
 use Rattle.trace.specs.Trace.{Trace, no-rows, some-rows, AreBytes, traceOf}
 use Rattle.trace.specs.House.{versionLineText, fractionOfDay, startLineText, rowsText, traceText, Writable}
 use Rattle.trace.proofs.Beginnings.{tested, are-bytes}
 use Rattle.tightness.specs.Programs.{Lent}
-use Rattle.tightness.specs.Tight.{received12, Tried, empty, later, older, two, copied, middle}
+use Rattle.tightness.specs.Tight.{receivedOn, received12, Tried, empty, later, older, two, copied, middle, one, no-bus}
 
 -- They can be written.
 
+on-formed : (bus offset id : ℕ) → bus ≤ lastBus → offset ≤ offsetLimit → id ≤ 0x7FF → WellFormed (receivedOn bus offset id)
+on-formed bus offset id b o i =
+    frame-formed _ (omega arith) o b (omega arith) (λ e. i) (omega arith) (omega arith) (omega arith) refl (λ e. refl)
+
 pub received-formed : (offset id : ℕ) → offset ≤ offsetLimit → id ≤ 0x7FF → WellFormed (received12 offset id)
-received-formed offset id o i =
-    frame-formed _ (omega arith) o (omega arith) (omega arith) (λ e. i) (omega arith) (omega arith) (omega arith) refl (λ e. refl)
+received-formed offset id = on-formed 1 offset id (omega arith)
 
 none-writable : {version start : ℕ} → Version version → start ≤ startLimit → Writable (traceOf version start 0 [])
 none-writable v l = record { version = v; start = l; numbered = no-rows refl refl; formed = none; carried = none }
@@ -45,6 +48,15 @@ two-writable first id l u h = record {
   carried = more (received-carried 0 1) (more (received-carried 0 id) none);
 }
 
+one-writable : {version bus : ℕ} → Version version → bus ≤ lastBus → Carries (receivedOn bus 0 1) version → Writable (traceOf version 0 1 (receivedOn bus 0 1 ∷ []))
+one-writable {bus = bus} v b c = record {
+  version = v;
+  start = omega arith;
+  numbered = some-rows (omega arith) (omega arith) (omega arith);
+  formed = more (on-formed bus 0 1 b (omega arith) (omega arith)) none;
+  carried = more c none;
+}
+
 pub writable : {t : Trace} → Tried t → Writable t
 writable empty = none-writable is12 (omega arith)
 writable later = none-writable is12 (omega arith)
@@ -52,6 +64,8 @@ writable older = none-writable is11 (omega arith)
 writable two = two-writable 1 2 (omega arith) (omega arith) (omega arith)
 writable copied = two-writable 1 1 (omega arith) (omega arith) (omega arith)
 writable middle = two-writable 4117 2 (omega arith) (omega arith) (omega arith)
+writable one = one-writable is12 (omega arith) (received-carried 0 1)
+writable no-bus = one-writable is11 (omega arith) (v11 refl refl)
 
 -- Bytes: so many zeros, packed records, and, computed, the house spelling of each trace.
 
@@ -78,6 +92,8 @@ text-tested older = tt
 text-tested two = tt
 text-tested copied = tt
 text-tested middle = tt
+text-tested one = tt
+text-tested no-bus = tt
 
 pub text-small : {t : Trace} → Tried t → AreBytes (traceText t)
 text-small {t} w = are-bytes (traceText t) (text-tested w)

@@ -24,9 +24,12 @@ pub record HandsOut (t : Trace) (a : FromReader) : Type 0 where
   pub records : handedOut a ≡ packed (t .records)
 
 -- The traces that the wrong programs are tried with: without rows, in two versions and with two starts; with two rows, of IDs 1 and 2; with the first of
--- these copied; and with the same two from number 4,117 on.
+-- these copied; with the same two from number 4,117 on; with the first of them alone; and with the same without its bus.
+abbrev pub receivedOn : ℕ → ℕ → ℕ → Record
+receivedOn bus offset id = record { offset = offset; bus = bus; kind = 0; extended = 0; id = id; len = 0; «data» = 0 }
+
 abbrev pub received12 : ℕ → ℕ → Record
-received12 offset id = record { offset = offset; bus = 1; kind = 0; extended = 0; id = id; len = 0; «data» = 0 }
+received12 = receivedOn 1
 
 pub data Tried : Trace → Type 0 where
   empty : Tried (traceOf 12 0 0 [])
@@ -35,6 +38,8 @@ pub data Tried : Trace → Type 0 where
   two : Tried (traceOf 12 0 1 (received12 0 1 ∷ received12 0 2 ∷ []))
   copied : Tried (traceOf 12 0 1 (received12 0 1 ∷ received12 0 1 ∷ []))
   middle : Tried (traceOf 12 0 4117 (received12 0 1 ∷ received12 0 2 ∷ []))
+  one : Tried (traceOf 12 0 1 (received12 0 1 ∷ []))
+  no-bus : Tried (traceOf 11 0 1 (receivedOn 0 0 1 ∷ []))
 
 -- A trace is real: some bytes spell it, some are its records, and with room an answer with number 0 keeps each promise.
 pub record Real (t : Trace) : Type 0 where
