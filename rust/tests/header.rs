@@ -18,7 +18,7 @@ fn defined(name: &str) -> &'static str {
 }
 
 #[test]
-fn sizes_are_the_same() {
+fn sizes_and_channels_are_the_same() {
     let sizes = [
         ("RECORD", RECORD),
         ("MOST_TEXT", MOST_TEXT),
@@ -29,8 +29,14 @@ fn sizes_are_the_same() {
         ("MOST_LINE", MOST_LINE),
         ("LEAST_LINE", LEAST_LINE),
     ];
-    for (name, size) in sizes {
-        assert_eq!(defined(name), size.to_string(), "{name}");
+    let channels = [
+        ("MOST_CHANNEL", MOST_CHANNEL),
+        ("CHANNEL_AS_BUS", CHANNEL_AS_BUS),
+        ("CHANNEL_AS_BENCH", CHANNEL_AS_BENCH),
+    ];
+    let sizes = sizes.map(|(name, size)| (name, size as u64));
+    for (name, number) in sizes.into_iter().chain(channels) {
+        assert_eq!(defined(name), number.to_string(), "{name}");
     }
 }
 
@@ -41,18 +47,6 @@ fn limits_are_the_same() {
     assert_eq!(MOST_START, 99_999 * 86_400_000 + 86_399_999);
     assert_eq!(defined("MOST_OFFSET"), "(((uint64_t)1 << 48) - 1)");
     assert_eq!(MOST_OFFSET, (1 << 48) - 1);
-}
-
-#[test]
-fn channels_are_the_same() {
-    let channels = [
-        ("MOST_CHANNEL", MOST_CHANNEL),
-        ("CHANNEL_AS_BUS", CHANNEL_AS_BUS),
-        ("CHANNEL_AS_BENCH", CHANNEL_AS_BENCH),
-    ];
-    for (name, channel) in channels {
-        assert_eq!(defined(name), channel.to_string(), "{name}");
-    }
 }
 
 #[test]

@@ -2,9 +2,10 @@
 use Prim.Native.Nat.{ℕ, _≤_}
 use mathlib.Core.Path.{_≡_, refl, ap, sym, _∙_}
 use mathlib.Core.Logic.{_≢_}
-use mathlib.Core.List.{List, _++_}
+use mathlib.Core.List.{List, [], _∷_, _++_}
 use native.Mathlib.Omega.{arith}
-use lib.ListN.{length, drop}
+use lib.ListN.{length, take, drop}
+use lib.Seq.{take-at}
 use Rattle.base.specs.Limits.{lastBus}
 use Rattle.clock.specs.Start.{startLimit}
 use Rattle.record.specs.declared.Record.{Record}
@@ -103,9 +104,29 @@ untouched f (refused g e q) = q
 untouched f (no-room g l e q) = q
 untouched {number = number} f (done g l e q) = let z : number ≡ 0 = cc in absurd (f z)
 
+-- What an answer with number 0 says, whatever the other numbers are: there were records, and their text was put and counted.
+pub record Accepted (start channel : ℕ) (s before ns after : List ℕ) : Type 0 where
+  pub records : List Record
+  pub text : List ℕ
+  pub given : Given start channel s records text
+  pub room : length text ≤ length before
+  pub numbers : ns ≡ 0 ∷ length text ∷ lineCount records ∷ leftCount records ∷ []
+  pub output : after ≡ text ++ drop (length text) before
+
+pub accepted : {start channel : ℕ} {s before ns after : List ℕ} → ExportPromise start channel s before (0 ∷ ns) after
+    → Accepted start channel s before ns after
+accepted (refused {n = n} g e q) = let z : 0 ≡ n = cc in absurd (omega (arith, stopped-number g))
+accepted (no-room g l e q) = let z : _≡_ {A = ℕ} 0 25 = cc in absurd (omega arith)
+accepted (done {rs = rs} {text = text} g l e q) = record { records = rs; text = text; given = g; room = l; numbers = cc; output = q }
+
+-- The text is what stands in the bytes that were counted.
+pub accepted-text : {start channel p n : ℕ} {s before ns after : List ℕ} (x : Accepted start channel s before (p ∷ n ∷ ns) after) → take n after ≡ x .text
+accepted-text {n = n} {before = before} x =
+    let t = x .text in
+    let i : n ≡ length t = cc (x .numbers) in
+    rw (x .output, i) (take-at t (drop (length t) before) (length t) refl)
+
 -- Each record is counted once: invented counts break the promise.
 pub counted : {start channel bytes lines others : ℕ} {s before x : List ℕ} → ExportPromise start channel s before (exportNumbers (exported.Done bytes lines others)) x
     → (rs : List Record) × PacksAll rs s × (lines ≡ lineCount rs) × (others ≡ leftCount rs)
-counted (refused {n = n} g e q) = let z : 0 ≡ n = cc in absurd (omega (arith, stopped-number g))
-counted (no-room g l e q) = let z : _≡_ {A = ℕ} 0 25 = cc in absurd (omega arith)
-counted (done {rs = rs} g l e q) = (rs, g .packs, cc, cc)
+counted p = let x = accepted p in (x .records, x .given .packs, cc (x .numbers), cc (x .numbers))

@@ -4,9 +4,7 @@ use mathlib.Core.Path.{_≡_, refl, ap, sym, _∙_}
 use mathlib.Core.List.{List}
 use native.Mathlib.Omega.{arith}
 use lib.ListN.{length, getD}
-use Rattle.digits.proofs.House.{decimal-spells}
-use Rattle.digits.proofs.Theorems.{one-decimal, one-hex}
-use Rattle.digits.specs.House.{decimalText}
+use Rattle.digits.proofs.Theorems.{one-spelled, one-hex}
 use Rattle.ascii_line.specs.Line.{messageTypeText, directionText}
 use Rattle.ascii_line_reader.specs.inner.Columns.{TypePart, ChannelPart, DirectionPart, IdPart}
 
@@ -29,9 +27,7 @@ no-type (suc zero) h n m = m refl
 no-type (suc (suc v)) h n m = omega arith
 
 pub channel-one : {v u : ℕ} {f : List ℕ} → ChannelPart v f → ChannelPart u f → v ≡ u
-channel-one {v} {u} p q =
-    let e : decimalText v ≡ decimalText u = cc (p .bytes, q .bytes) in
-    one-decimal (rw e at (decimal-spells v)) (decimal-spells u)
+channel-one {v} {u} p q = one-spelled v u (cc (p .bytes, q .bytes))
 
 one-direction : (v u : ℕ) → v ≤ 1 → u ≤ 1 → directionText v ≡ directionText u → v ≡ u
 unfolding directionText

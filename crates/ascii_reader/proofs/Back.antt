@@ -15,6 +15,7 @@ use Rattle.clock.specs.Stamp.{Stamp}
 use Rattle.record.specs.declared.Record.{Record}
 use Rattle.record.specs.Record.{WellFormed}
 use Rattle.records.specs.Records.{Each, none, more, packed}
+use Rattle.records.proofs.Lists.{each-all, each-map}
 use Rattle.records.proofs.Packing.{packed-length}
 use Rattle.fields.specs.Columns.{lastNumber}
 use Rattle.ascii_line.specs.Line.{lineText}
@@ -147,21 +148,13 @@ back {n = n} {before = before} {after = after} c k (done {start = b} {rs = rs} l
     let t = rw (← (i .0)) at s in
     exports-back c (k rs t) t m (i .1) (rw z at p)
 
-each : {P : Record → Type 0} → ((r : Record) → P r) → (rs : List Record) → Each P rs
-each f [] = none
-each f (r ∷ rs) = more (f r) (each f rs)
-
 -- The sentences of Orders 4 and 6, over the promises: with channel 0,
 pub export-of-read : {start n : ℕ} {text before after old a new : List ℕ} → ReadAsciiPromise text before (0 ∷ 0 ∷ start ∷ n ∷ []) after
     → ExportPromise start 0 (take (20 * n) after) old a new → ExportsBack text old start n a new
-export-of-read = back (omega arith) (λ rs s. each (λ r. same-channel (r .bus)) rs)
+export-of-read = back (omega arith) (λ rs s. each-all (λ r. same-channel (r .bus)) rs)
 
 -- and with any, where no line has channel 0.
 pub export-on-buses : {start channel n : ℕ} {text before after old a new : List ℕ} → channel ≤ lastBus
     → ((rs : List Record) → SpellsAscii start rs text → Each (λ r. 1 ≤ r .bus) rs) → ReadAsciiPromise text before (0 ∷ 0 ∷ start ∷ n ∷ []) after
     → ExportPromise start channel (take (20 * n) after) old a new → ExportsBack text old start n a new
-export-on-buses {channel = channel} c k = back c (λ rs s. go (k rs s))
-  where
-    go : {rs : List Record} → Each (λ r. 1 ≤ r .bus) rs → Each (OnItsBus channel) rs
-    go none = none
-    go (more {r = r} l ls) = more (own-channel channel (r .bus) (λ e. omega arith)) (go ls)
+export-on-buses {channel = channel} c k = back c (λ rs s. each-map (λ r l. own-channel channel (r .bus) (λ e. omega arith)) (k rs s))

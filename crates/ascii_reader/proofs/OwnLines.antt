@@ -4,8 +4,7 @@ use mathlib.Core.Path.{_≡_, refl, ap, _∙_}
 use mathlib.Core.Logic.{_≢_, inl}
 use mathlib.Core.List.{List, [], _∷_, _++_, append-assoc}
 use native.Mathlib.Omega.{arith}
-use lib.ListN.{length, take, drop, length-append}
-use lib.Seq.{take-at}
+use lib.ListN.{length, take, length-append}
 use Rattle.base.specs.Limits.{lastBus}
 use Rattle.clock.specs.declared.DateTime.{DateTime}
 use Rattle.clock.specs.Stamp.{Stamp}
@@ -16,7 +15,7 @@ use Rattle.records.specs.Records.{Each, none, more, PacksAll}
 use Rattle.ascii_line.specs.Line.{idDigits, lineText}
 use Rattle.ascii.specs.Promise.{channelOf, lineOf, Exports, ExportPromise}
 use Rattle.ascii.specs.Promise
-use Rattle.ascii.proofs.Answers.{stopped-number}
+use Rattle.ascii.proofs.Answers.{accepted, accepted-text}
 use Rattle.ascii.proofs.Channels.{channel-most}
 use Rattle.ascii.proofs.Exporting.{exports-line, export-most}
 use Rattle.ascii_line_reader.specs.AsciiLine.{instant, StampFits, FrameFits, AsciiLine}
@@ -136,12 +135,10 @@ number e = cc
 -- Over the promises: what any export wrote, from records up to day 99,999, no reading refuses with 31.
 pub own-export : {start channel n l k p : ℕ} {s before after old new : List ℕ} → ExportPromise start channel s before (0 ∷ 0 ∷ n ∷ l ∷ k ∷ []) after
     → ((rs : List Record) → PacksAll rs s → Each (Dated start) rs) → ReadAsciiPromise (take n after) old (31 ∷ p ∷ 0 ∷ 0 ∷ []) new → ⊥
-own-export (Promise.refused f e q) d r = let z = number e in omega (arith, stopped-number f)
-own-export (Promise.no-room g m e q) d r = let z = number e in omega arith
-own-export {n = n} {before = before} {after = after} (Promise.done {rs = rs} {text = text} g m e q) d r =
-    let i : n ≡ length text = cc (e) in
-    let z : take n after ≡ text = rw (q, i) (take-at text (drop (length text) before) (length text) refl) in
-    go (own-lines (g .is-channel) (g .packs .formed) (d rs (g .packs)) (g .exports)) (rw z at r)
+own-export p d r =
+    let x = accepted p in
+    let g = x .given in
+    go (own-lines (g .is-channel) (g .packs .formed) (d (x .records) (g .packs)) (g .exports)) (rw (accepted-text x) at r)
   where
     go : {text old new : List ℕ} {p : ℕ} → SuchLines text → ReadAsciiPromise text old (31 ∷ p ∷ 0 ∷ 0 ∷ []) new → ⊥
     go x (read.large l e q) = let z = number e in omega arith

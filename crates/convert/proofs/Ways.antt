@@ -23,7 +23,7 @@ use Rattle.trace_writer.proofs.Again.{Read, read-done}
 use Rattle.ascii.specs.declared.Exported.the-variants as exported
 use Rattle.ascii.specs.Promise.{exportNumbers, Numbered, is-refused, Exports, ExportPromise}
 use Rattle.ascii.specs.Promise as ascii
-use Rattle.ascii.proofs.Answers.{never-stopped}
+use Rattle.ascii.proofs.Answers.{never-stopped, accepted}
 use Rattle.convert.specs.declared.Printed.{Printed}
 use Rattle.convert.specs.declared.Printed.the-variants as printed
 use Rattle.convert.specs.Promise.{inputLimit, benchChannel, refusalText, large, refused, export, TooShort, no-records, no-page, ConvertPromise, short}
@@ -96,8 +96,7 @@ module _ {version start first rows steps : ℕ} {input records x : List ℕ} (h 
   pub exported-all : {bytes lines others : ℕ} {page after : List ℕ}
       → ExportPromise start benchChannel (take (20 * rows) x) page (exportNumbers (exported.Done bytes lines others)) after
       → ConvertPromise input (length records) page (printed.Page bytes) after
-  exported-all (ascii.refused f e d) = absurd (never f)
-  exported-all (ascii.no-room g l e d) = let z : _≡_ {A = ℕ} 0 25 = cc in absurd (omega arith)
-  exported-all {bytes} (ascii.done {text = text} g l e d) =
-      let a : bytes ≡ length text = cc in
-      answered (export h (reading .spelled) (of-trace g)) held-all (put l (ap printed.Page a) d)
+  exported-all {bytes} p =
+      let y = accepted p in
+      let a : bytes ≡ length (y .text) = cc (y .numbers) in
+      answered (export h (reading .spelled) (of-trace (y .given))) held-all (put (y .room) (ap printed.Page a) (y .output))

@@ -23,6 +23,10 @@ use Rattle.digits.proofs.Strings.{unique, below, decimal, hex}
 pub one-decimal : {n m : ℕ} {s : List ℕ} → Decimal n s → Decimal m s → n ≡ m
 one-decimal p q = unique decimal (p .digits) (q .digits)
 
+-- So is it for its house spelling.
+pub one-spelled : (n m : ℕ) → decimalText n ≡ decimalText m → n ≡ m
+one-spelled n m e = one-decimal (rw e at (decimal-spells n)) (decimal-spells m)
+
 pub one-padded : {v w n m : ℕ} {s : List ℕ} → Padded v n s → Padded w m s → n ≡ m
 one-padded p q = unique decimal (p .digits) (q .digits)
 

@@ -14,6 +14,15 @@ each-append (more p f) g = more p (each-append f g)
 pub each-snoc : {P : Record → Type 0} {rs : List Record} {r : Record} → Each P rs → P r → Each P (rs ++ (r ∷ []))
 each-snoc f p = each-append f (more p none)
 
+-- Every record, since all have it, or have what gives it.
+pub each-all : {P : Record → Type 0} → ((r : Record) → P r) → (rs : List Record) → Each P rs
+each-all f [] = none
+each-all f (r ∷ rs) = more (f r) (each-all f rs)
+
+pub each-map : {P Q : Record → Type 0} {rs : List Record} → ((r : Record) → P r → Q r) → Each P rs → Each Q rs
+each-map f none = none
+each-map f (more {r = r} p g) = more (f r p) (each-map f g)
+
 pub each-tail : {P : Record → Type 0} {r : Record} {rs : List Record} → Each P (r ∷ rs) → Each P rs
 each-tail (more p f) = f
 

@@ -11,7 +11,7 @@ use Rattle.base.proofs.Numbers.{below-or-not}
 use Rattle.digits.specs.Digits.{Hex}
 use Rattle.digits.specs.House.{figureOf, decimalText}
 use Rattle.digits.proofs.House.{decimal-spells}
-use Rattle.digits.proofs.Theorems.{one-decimal, one-hex}
+use Rattle.digits.proofs.Theorems.{one-spelled, one-hex}
 use Rattle.clock.specs.declared.CalendarDay.{CalendarDay}
 use Rattle.clock.specs.declared.DayTime.{DayTime}
 use Rattle.clock.specs.declared.DateTime.{DateTime}
@@ -157,8 +157,7 @@ module _ {s : DateTime} {r : Record} {line : List ℕ} where
     where
       go : {m : List ℕ} {fs : List (List ℕ)} → FromType r (m ∷ channelText n ∷ fs) → ⊥
       go (from-type x (from-channel c b)) =
-          let e : decimalText n ≡ decimalText (r .bus) = cc (c .bytes) in
-          f (one-decimal (decimal-spells (r .bus)) (rw e at (decimal-spells n)))
+          f (one-spelled (r .bus) n (cc (c .bytes)))
 
   -- a channel above 16
   pub channel-17 : {d t m : List ℕ} {fs : List (List ℕ)} (n : ℕ) → 16 < n → Parted (d ∷ t ∷ m ∷ channelText n ∷ fs) line → AsciiLine s r line → ⊥

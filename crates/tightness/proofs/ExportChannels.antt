@@ -1,6 +1,6 @@
 -- Wrong channels of the export and of the bench program, for any program: a line on another channel than that of its bus, or than the one given for bus 0;
 -- and 35 where another number is right, or another where 35 is.
-use Prim.Native.Nat.{ℕ, suc, _≤_, _<_}
+use Prim.Native.Nat.{ℕ, _≤_, _<_}
 use mathlib.Core.Path.{_≡_, refl, ap, sym, _∙_}
 use mathlib.Core.Logic.{_≢_}
 use mathlib.Core.List.{List, [], _∷_, _++_, append-assoc}
@@ -11,7 +11,7 @@ use Rattle.base.specs.Spaced.{spaced}
 use Rattle.base.proofs.Spaced.{spaced-more}
 use Rattle.digits.specs.House.{decimalText, paddedText}
 use Rattle.digits.proofs.House.{decimal-spells}
-use Rattle.digits.proofs.Theorems.{one-decimal}
+use Rattle.digits.proofs.Theorems.{one-spelled}
 use Rattle.clock.specs.declared.DateTime.{DateTime}
 use Rattle.clock.specs.Start.{startLimit}
 use Rattle.clock.specs.Stamp.{Stamp}
@@ -24,10 +24,10 @@ use Rattle.ascii_line.specs.Line.{extendedTexts, directionText, lineText}
 use Rattle.ascii_line.specs.inner.Parts.{secondText, sourceText, wayText, restText}
 use Rattle.ascii_line.proofs.Texts.{line-cut}
 use Rattle.ascii.specs.Promise.{channelOf, lineOf, Exports, line, ExportStopped, no-records, late, no-channel, malformed, ExportPromise, refused, no-room, done}
-use Rattle.ascii.proofs.Answers.{one-export, stopped-number}
+use Rattle.ascii.proofs.Answers.{one-export, accepted}
 use Rattle.ascii.proofs.Channels.{given-channel, own-channel}
 use Rattle.ascii.proofs.Exporting.{exports-one, exports-append}
-use Rattle.convert.specs.Promise.{benchChannel, Prints, ConvertPromise}
+use Rattle.convert.specs.Promise.{benchChannel, ConvertPromise}
 use Rattle.convert.specs.Promise as bench
 use Rattle.convert.specs.declared.Printed.the-variants as printed
 use Rattle.convert.proofs.Answers.{one-print}
@@ -54,8 +54,7 @@ module _ (s : DateTime) (r : Record) where
   pub channel-told : {c d : ℕ} (x y : List ℕ) → lineText s c r ++ x ≡ lineText s d r ++ y → c ≡ d
   channel-told {c} {d} x y e =
       let q = same-behind front (sym (at-channel c x) ∙ e ∙ at-channel d y) in
-      let z = before (omega arith) (omega arith) (decimal-spells c .digits) (decimal-spells d .digits) q .0 in
-      one-decimal (rw z at (decimal-spells c)) (decimal-spells d)
+      one-spelled c d (before (omega arith) (omega arith) (decimal-spells c .digits) (decimal-spells d .digits) q .0)
 
 -- A data frame among records, and what is exported before it.
 module _ {start channel : ℕ} (lead back : List Record) (r : Record) {s : DateTime} {t : List ℕ} (rest : List ℕ) (k : r .kind ≤ 1) (z : Stamp start (r .offset) s)
@@ -72,9 +71,9 @@ module _ {start channel : ℕ} (lead back : List Record) (r : Record) {s : DateT
   -- export
   pub another-channel : {d : ℕ} {bytes old ns : List ℕ} → PacksAll (lead ++ (r ∷ back)) bytes → d ≢ channelOf channel (r .bus)
       → ExportPromise start channel bytes old (0 ∷ ns) (t ++ (lineText s d r ++ rest)) → ⊥
-  another-channel p n (refused {n = m} g e q) = let y : 0 ≡ m = cc in omega (arith, stopped-number g)
-  another-channel p n (no-room g l e q) = let y : _≡_ {A = ℕ} 0 25 = cc in omega arith
-  another-channel {old = old} p n (done {text = text} g l e q) = on-another (drop (length text) old) n (rw (packs-all-one (g .packs) p) at (g .exports)) q
+  another-channel {old = old} p n x =
+      let a = accepted x in
+      on-another (drop (length (a .text)) old) n (rw (packs-all-one (a .given .packs) p) at (a .given .exports)) (a .output)
 
   -- channel 1 for bus 0, whatever is given
   pub one-whatever-is-given : {bytes old ns : List ℕ} → PacksAll (lead ++ (r ∷ back)) bytes → r .bus ≡ 0 → channel ≢ 1

@@ -4,8 +4,7 @@ use mathlib.Core.Path.{_≡_, refl, ap, sym, _∙_}
 use mathlib.Core.Logic.{⊎-elim}
 use mathlib.Core.List.{List, [], _∷_, _++_}
 use native.Mathlib.Omega.{arith}
-use lib.ListN.{length, take, drop, length-replicate}
-use lib.Seq.{take-at}
+use lib.ListN.{length, take, length-replicate}
 use Rattle.base.specs.Limits.{lastBus}
 use Rattle.clock.proofs.Stamps.{some-stamp}
 use Rattle.record.specs.declared.Record.{Record}
@@ -14,7 +13,7 @@ use Rattle.records.proofs.Records.{packs-all-one}
 use Rattle.trace.specs.Trace.{Trace}
 use Rattle.ascii_line.specs.Line.{lineText}
 use Rattle.ascii.specs.Promise.{lineOf, Exports, lineCount, leftCount, ExportPromise}
-use Rattle.ascii.proofs.Answers.{stopped-number, exports}
+use Rattle.ascii.proofs.Answers.{exports, accepted, accepted-text}
 use Rattle.ascii.proofs.Channels.{given-channel, own-channel}
 use Rattle.ascii.proofs.Exporting.{exports-one, exports-line, export-most, frame-line, frame-left}
 use Rattle.tightness.specs.Programs.{Lent, FromExporter, Exporter, five, KeepsExport, exportedText}
@@ -39,13 +38,14 @@ record Made (start channel : ℕ) (rs : List Record) (m lines left : ℕ) (x : L
 
 made : {start channel n p m lines left : ℕ} {s before x : List ℕ} {rs : List Record}
     → ExportPromise start channel s before (n ∷ p ∷ m ∷ lines ∷ left ∷ []) x → n ≡ 0 → PacksAll rs s → Made start channel rs m lines left x
-made (ExportPromise.refused {n = i} f e q) z h = let d : 0 ≡ i = cc in absurd (omega (arith, stopped-number f))
-made (ExportPromise.no-room g l e q) z h = let d : _≡_ {A = ℕ} 0 25 = cc in absurd (omega arith)
-made {m = m} {before = before} {x = x} (ExportPromise.done {text = text} g l e q) z h =
-    let o = packs-all-one (g .packs) h in
-    let b : m ≡ length text = cc (e) in
-    let y : take m x ≡ text = rw (q, b) (take-at text (drop (length text) before) (length text) refl) in
-    record { text = rw (y, ← o) (g .exports); lines-true = cc (e, ap lineCount o); left-true = cc (e, ap leftCount o) }
+made p z h =
+    let a = accepted (rw z at p) in
+    let o = packs-all-one (a .given .packs) h in
+    record {
+      text = rw (accepted-text a, ← o) (a .given .exports);
+      lines-true = cc (a .numbers, ap lineCount o);
+      left-true = cc (a .numbers, ap leftCount o);
+    }
 
 module _ {e : Exporter} (k : KeepsExport e) where
   pub invents-left-out : InventsLeftOut e → ⊥
@@ -68,15 +68,15 @@ module _ {e : Exporter} (k : KeepsExport e) where
     keeps : ExportPromise (t .start) channel (packed (t .records)) (page .list) (five answer) (answer .after)
     keeps = k .keeps (t .start) channel records page
 
-    accepted : answer .number ≡ 0
-    accepted =
+    taken : answer .number ≡ 0
+    taken =
         let (x, y) = some-export (t .start) channel (t .records) in
         let l = export-most c (writable w .formed) y in
         let o = exports (given w c y) (omega (arith, length-replicate {A = ℕ} (86 * length (t .records)) 0)) keeps in
         cc (o .0)
 
     its-text : {x : List ℕ} → Exports (t .start) channel (t .records) x → exportedText answer ≡ x
-    its-text y = exports-one (made keeps accepted (given w c y .packs) .text) y
+    its-text y = exports-one (made keeps taken (given w c y .packs) .text) y
 
   -- The line of the one frame that two of these traces have.
   line : (bus channel : ℕ) → Exports 0 channel (receivedOn bus 0 1 ∷ []) (lineOf channel (some-stamp 0 0 .0) (receivedOn bus 0 1))
@@ -90,11 +90,11 @@ module _ {e : Exporter} (k : KeepsExport e) where
   gives-one h =
       let z : 0 ≤ lastBus = omega arith in
       let y : 1 ≤ lastBus = omega arith in
-      let q = h 0 0 (records no-bus 0 z) (page no-bus 0 z) (accepted no-bus 0 z) (accepted no-bus 1 y) in
+      let q = h 0 0 (records no-bus 0 z) (page no-bus 0 z) (taken no-bus 0 z) (taken no-bus 1 y) in
       omega (arith, told 0 (sym (its-text no-bus 0 z (line 0 0)) ∙ q ∙ its-text no-bus 1 y (line 0 1)), given-channel 0 0 refl, given-channel 1 0 refl)
 
   pub gives-all : GivesAll e → ⊥
   gives-all h =
       let z : 0 ≤ lastBus = omega arith in
-      let q = h 0 0 (received12 0 1) (some-stamp 0 0 .0) (records one 0 z) (page one 0 z) refl (omega arith) (some-stamp 0 0 .1) (accepted one 0 z) in
+      let q = h 0 0 (received12 0 1) (some-stamp 0 0 .0) (records one 0 z) (page one 0 z) refl (omega arith) (some-stamp 0 0 .1) (taken one 0 z) in
       omega (arith, told 1 (sym (its-text one 0 z (line 1 0)) ∙ q), own-channel 0 1 (λ o. omega arith))
