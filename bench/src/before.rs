@@ -174,35 +174,19 @@ impl Before {
     }
 }
 
-/// The numbers that a reader sets; before Order 3 the last, which is the first number, was not among them.
+/// The numbers that a reader sets: of traces seven, before Order 3 all but the last of them, which is the first number; of ASCII four.
 fn numbers_read(read: Read, text: &[u8], out: &mut [u8]) -> [u64; 7] {
     let mut answer = [UNSET; 7];
-    // SAFETY: see above; the answer has room for the seven numbers of the header, and so for the six that there were.
-    unsafe {
-        read(
-            text.as_ptr(),
-            text.len(),
-            out.as_mut_ptr(),
-            out.len(),
-            answer.as_mut_ptr(),
-        )
-    }
+    let (from, len) = (text.as_ptr(), text.len());
+    let (to, room, said) = (out.as_mut_ptr(), out.len(), answer.as_mut_ptr());
+    // SAFETY: see above; the answer has room for the numbers of either reader in every header.
+    unsafe { read(from, len, to, room, said) }
     answer
 }
 
 fn ascii_read(read_ascii: Read, text: &[u8], out: &mut [u8]) -> [u64; 4] {
-    let mut answer = [UNSET; 4];
-    // SAFETY: see above; the answer has room for the four numbers of the header.
-    unsafe {
-        read_ascii(
-            text.as_ptr(),
-            text.len(),
-            out.as_mut_ptr(),
-            out.len(),
-            answer.as_mut_ptr(),
-        )
-    }
-    answer
+    let [number, place, start, records, ..] = numbers_read(read_ascii, text, out);
+    [number, place, start, records]
 }
 
 /// The header that a library was made with, as its readers tell.
