@@ -41,12 +41,20 @@ stopped-number (late w l) = omega arith
 stopped-number (no-channel w l c) = omega arith
 stopped-number (malformed w l c f) = omega arith
 
--- 23 is that of a malformed record.
-pub stopped-23 : {start channel n p : ℕ} {s : List ℕ} → ExportStopped start channel s n p → n ≡ 23 → FirstMalformed s p
+-- 23 is that of the first malformed record.
+stopped-23 : {start channel n p : ℕ} {s : List ℕ} → ExportStopped start channel s n p → n ≡ 23 → FirstMalformed s p
 stopped-23 (no-records f) e = absurd (omega arith)
 stopped-23 (late w l) e = absurd (omega arith)
 stopped-23 (no-channel w l c) e = absurd (omega arith)
 stopped-23 (malformed w l c f) e = f
+
+pub answered-23 : {start channel p : ℕ} {s before ns x : List ℕ} → ExportPromise start channel s before (23 ∷ p ∷ ns) x → FirstMalformed s p
+answered-23 {p = p} (refused {n = n} {p = q} f e u) =
+    let y : n ≡ 23 = cc in
+    let z : q ≡ p = cc in
+    rw z at (stopped-23 f y)
+answered-23 (no-room g l e u) = let z : _≡_ {A = ℕ} 23 25 = cc in absurd (omega arith)
+answered-23 (done g l e u) = let z : _≡_ {A = ℕ} 23 0 = cc in absurd (omega arith)
 
 -- What is whole, within the limits and made of records is none of them,
 pub never-stopped : {start channel n p : ℕ} {s : List ℕ} {rs : List Record} → Whole s → start ≤ startLimit → channel ≤ lastBus → PacksAll rs s

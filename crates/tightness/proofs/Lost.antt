@@ -10,7 +10,7 @@ use Rattle.trace.specs.Promise as reading
 use Rattle.trace_writer.specs.Promise as writing
 use Rattle.trace_writer.proofs.Answers.{stopped-numbers}
 use Rattle.ascii.specs.Promise as exporting
-use Rattle.ascii.proofs.Answers.{stopped-23}
+use Rattle.ascii.proofs.Answers.{answered-23}
 
 -- read: 2 to 7 are given with a line
 refused-at : {text : List ℕ} {n p : ℕ} → reading.RefusedAtLine text n p → 1 ≤ p
@@ -70,10 +70,7 @@ number-at-a-record (writing.done w s r e u) = let z : _≡_ {A = ℕ} 26 0 = cc 
 -- export: 23 is given with a record
 pub export-record-lost : {start channel bytes lines left : ℕ} {s before after : List ℕ}
     → exporting.ExportPromise start channel s before (23 ∷ 0 ∷ bytes ∷ lines ∷ left ∷ []) after → ⊥
-export-record-lost (exporting.refused {n = n} {p = p} t e u) =
-    let y : n ≡ 23 = cc in let z : 0 ≡ p = cc in let f = stopped-23 t y in omega (arith, f .at)
-export-record-lost (exporting.no-room g l e u) = let z : _≡_ {A = ℕ} 23 25 = cc in omega arith
-export-record-lost (exporting.done g l e u) = let z : _≡_ {A = ℕ} 23 0 = cc in omega arith
+export-record-lost e = omega (arith, answered-23 e .at)
 
 -- pack: 25 is given with place 0
 pub short-at-a-place : {r : Record} {place : ℕ} {before after : List ℕ} → single.PackPromise r before (25 ∷ suc place ∷ []) after → ⊥

@@ -21,10 +21,9 @@ use Rattle.trace.specs.Promise as reading
 use Rattle.trace.proofs.Answers.{not-refused}
 use Rattle.trace.proofs.There.{there}
 use Rattle.trace_writer.specs.Promise.{WritePromise}
-use Rattle.trace_writer.specs.Promise as writing
+use Rattle.trace_writer.proofs.Answers as writing
 use Rattle.ascii.specs.Promise.{lineOf, ExportPromise}
-use Rattle.ascii.specs.Promise as exporting
-use Rattle.ascii.proofs.Answers.{stopped-23}
+use Rattle.ascii.proofs.Answers as exporting
 use Rattle.ascii.proofs.Channels.{same-channel}
 use Rattle.ascii_line_reader.specs.AsciiLine.{withOffset, instant}
 use Rattle.ascii_reader.specs.Text.{over, cut, SpellsAscii}
@@ -44,22 +43,13 @@ module _ {r : Record} (w : WellFormed r) (o : ℕ) (h : o < 2 ^ 48) (front back 
   given = record { formed = each-append f (more (every-offset o h w) b); bytes = refl }
 
   -- export: 23
-  pub old-limit-in-export : {start channel : ℕ} {before after ns : List ℕ} → ExportPromise start channel (packed list) before (23 ∷ ns) after → ⊥
-  old-limit-in-export (exporting.refused {n = n} f e z) = let y : n ≡ 23 = cc in none-malformed given (stopped-23 f y)
-  old-limit-in-export (exporting.no-room g l e z) = let y : _≡_ {A = ℕ} 23 25 = cc in omega arith
-  old-limit-in-export (exporting.done g l e z) = let y : _≡_ {A = ℕ} 23 0 = cc in omega arith
+  pub old-limit-in-export : {start channel p : ℕ} {before after ns : List ℕ} → ExportPromise start channel (packed list) before (23 ∷ p ∷ ns) after → ⊥
+  old-limit-in-export e = none-malformed given (exporting.answered-23 e)
 
   module _ {version start first : ℕ} where
     -- write: 23
-    pub old-limit-in-write : {before after ns : List ℕ} → WritePromise version start first (packed list) before (23 ∷ ns) after → ⊥
-    old-limit-in-write (writing.refused (writing.no-records x) e z) = let y : _≡_ {A = ℕ} 23 20 = cc in omega arith
-    old-limit-in-write (writing.refused (writing.no-version x v) e z) = let y : _≡_ {A = ℕ} 23 21 = cc in omega arith
-    old-limit-in-write (writing.refused (writing.late x v l) e z) = let y : _≡_ {A = ℕ} 23 22 = cc in omega arith
-    old-limit-in-write (writing.refused (writing.no-number x v l n) e z) = let y : _≡_ {A = ℕ} 23 26 = cc in omega arith
-    old-limit-in-write (writing.refused (writing.malformed x v l n m) e z) = none-malformed given m
-    old-limit-in-write (writing.refused (writing.misfit x v l n p m) e z) = let y : _≡_ {A = ℕ} 23 24 = cc in omega arith
-    old-limit-in-write (writing.no-room g q l e z) = let y : _≡_ {A = ℕ} 23 25 = cc in omega arith
-    old-limit-in-write (writing.done g q l e z) = let y : _≡_ {A = ℕ} 23 0 = cc in omega arith
+    pub old-limit-in-write : {p : ℕ} {before after ns : List ℕ} → WritePromise version start first (packed list) before (23 ∷ p ∷ ns) after → ⊥
+    old-limit-in-write e = none-malformed given (writing.answered-23 e)
 
     -- read: 7, or any other refusal of a line, for the house spelling of them
     module _ (v : Version version) (l : start ≤ startLimit) (n : FirstNumber first (length list)) (c : Carried version list) where

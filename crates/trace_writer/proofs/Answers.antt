@@ -2,7 +2,7 @@
 use Prim.Native.Nat.{ℕ, _≤_, _<_}
 use mathlib.Core.Path.{_≡_, refl, ap, sym, _∙_}
 use mathlib.Core.Logic.{_≢_}
-use mathlib.Core.List.{List, _++_}
+use mathlib.Core.List.{List, _∷_, _++_}
 use native.Mathlib.Omega.{arith}
 use lib.ListN.{length, take, drop, length-append}
 use lib.Seq.{take-at}
@@ -166,7 +166,24 @@ untouched f (WritePromise.refused g e q) = q
 untouched f (WritePromise.no-room w i l e q) = q
 untouched {number = number} f (WritePromise.done w i l e q) = let z : number ≡ 0 = cc in absurd (f z)
 
--- 23 is tested over all records before 24: where some record is not well formed, the first such is the answer.
+-- 23 is that of the first malformed record.
+stopped-23 : {version start first n p : ℕ} {s : List ℕ} → WriteStopped version start first s n p → n ≡ 23 → FirstMalformed s p
+stopped-23 (WriteStopped.no-records f) e = absurd (omega arith)
+stopped-23 (WriteStopped.no-version w f) e = absurd (omega arith)
+stopped-23 (WriteStopped.late w v l) e = absurd (omega arith)
+stopped-23 (WriteStopped.no-number w v l f) e = absurd (omega arith)
+stopped-23 (WriteStopped.malformed w v l n f) e = f
+stopped-23 (WriteStopped.misfit w v l n h f) e = absurd (omega arith)
+
+pub answered-23 : {version start first p : ℕ} {s before ns x : List ℕ} → WritePromise version start first s before (23 ∷ p ∷ ns) x → FirstMalformed s p
+answered-23 {p = p} (WritePromise.refused {n = n} {p = q} f e u) =
+    let y : n ≡ 23 = cc in
+    let z : q ≡ p = cc in
+    rw z at (stopped-23 f y)
+answered-23 (WritePromise.no-room w i l e u) = let z : _≡_ {A = ℕ} 23 25 = cc in absurd (omega arith)
+answered-23 (WritePromise.done w i l e u) = let z : _≡_ {A = ℕ} 23 0 = cc in absurd (omega arith)
+
+-- It is tested over all records before 24: where some record is not well formed, the first such is the answer.
 pub malformed-first : {version start first p : ℕ} {s before a x : List ℕ} → Whole s → Version version → start ≤ startLimit → NumberFits first s
     → FirstMalformed s p
     → WritePromise version start first s before a x → a ≡ writeNumbers (answer.Refused 23 p)
