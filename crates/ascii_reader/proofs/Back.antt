@@ -14,7 +14,7 @@ use Rattle.clock.specs.Start.{startLimit}
 use Rattle.clock.specs.Stamp.{Stamp}
 use Rattle.record.specs.declared.Record.{Record}
 use Rattle.record.specs.Record.{WellFormed}
-use Rattle.records.specs.Records.{Each, none, more, packed}
+use Rattle.records.specs.Records.{Each, none, more, packed, PacksAll}
 use Rattle.records.proofs.Lists.{each-all, each-map}
 use Rattle.records.proofs.Packing.{packed-length}
 use Rattle.fields.specs.Columns.{lastNumber}
@@ -134,19 +134,38 @@ other {n} e h = let z : 0 ≡ n = cc in omega arith
 told : {a b m n : ℕ} → 0 ∷ 0 ∷ a ∷ n ∷ [] ≡ 0 ∷ 0 ∷ b ∷ m ∷ [] → (a ≡ b) × (n ≡ m)
 told e = (cc, cc)
 
--- What `read_ascii` handed out, exported with its start, by any program, with a channel that leaves each record on its bus.
+-- What `read_ascii` handed out: a well-formed list of what the text spells.
+pub record AsciiHeld (start n : ℕ) (text after : List ℕ) : Type 0 where
+  pub records : List Record
+  pub spelled : SpellsAscii start records text
+  pub few : length records ≤ lastNumber
+  pub counted : n ≡ length records
+  pub packs : PacksAll records (take (20 * n) after)
+
+pub ascii-held : {start n : ℕ} {text before after : List ℕ} → ReadAsciiPromise text before (0 ∷ 0 ∷ start ∷ n ∷ []) after → AsciiHeld start n text after
+ascii-held (large l e q) = absurd (other e (omega arith))
+ascii-held (refused l f e q) = absurd (other e (omega (arith, refused-numbers f .0)))
+ascii-held (many l s m e q) = absurd (other e (omega arith))
+ascii-held (no-room l s m r e q) = absurd (other e (omega arith))
+ascii-held {n = n} {before = before} {after = after} (done {rs = rs} l s m r e q) =
+    let i = told e in
+    let z : take (20 * n) after ≡ packed rs = rw (q, i .1) (take-at (packed rs) (drop (20 * length rs) before) (20 * length rs) (packed-length rs)) in
+    record {
+      records = rs;
+      spelled = rw (← (i .0)) at s;
+      few = m;
+      counted = i .1;
+      packs = record { formed = all-formed (s .lines); bytes = z };
+    }
+
+-- This, exported with its start, by any program, with a channel that leaves each record on its bus.
 back : {start channel n : ℕ} {text before after old a new : List ℕ} → channel ≤ lastBus
     → ((rs : List Record) → SpellsAscii start rs text → Each (OnItsBus channel) rs) → ReadAsciiPromise text before (0 ∷ 0 ∷ start ∷ n ∷ []) after
     → ExportPromise start channel (take (20 * n) after) old a new → ExportsBack text old start n a new
-back c k (large l e q) p = absurd (other e (omega arith))
-back c k (refused l f e q) p = absurd (other e (omega (arith, refused-numbers f .0)))
-back c k (many l s m e q) p = absurd (other e (omega arith))
-back c k (no-room l s m r e q) p = absurd (other e (omega arith))
-back {n = n} {before = before} {after = after} c k (done {start = b} {rs = rs} l s m r e q) p =
-    let i = told e in
-    let z : take (20 * n) after ≡ packed rs = rw (q, i .1) (take-at (packed rs) (drop (20 * length rs) before) (20 * length rs) (packed-length rs)) in
-    let t = rw (← (i .0)) at s in
-    exports-back c (k rs t) t m (i .1) (rw z at p)
+back c k r p =
+    let x = ascii-held r in
+    let s = x .spelled in
+    exports-back c (k (x .records) s) s (x .few) (x .counted) (rw (x .packs .bytes) at p)
 
 -- The sentences of Orders 4 and 6, over the promises: with channel 0,
 pub export-of-read : {start n : ℕ} {text before after old a new : List ℕ} → ReadAsciiPromise text before (0 ∷ 0 ∷ start ∷ n ∷ []) after

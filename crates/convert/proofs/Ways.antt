@@ -19,7 +19,7 @@ use Rattle.trace.specs.House.{Writable}
 use Rattle.trace.proofs.Answers.{not-refused, refused-numbers}
 use Rattle.trace.proofs.Numbers.{rows-numbered}
 use Rattle.trace.proofs.There.{read-writable}
-use Rattle.trace_writer.proofs.Again.{Read, read-done}
+use Rattle.trace_writer.proofs.Again.{Read, read-done, read-held}
 use Rattle.ascii.specs.declared.Exported.the-variants as exported
 use Rattle.ascii.specs.Promise.{exportNumbers, Numbered, is-refused, Exports, ExportPromise}
 use Rattle.ascii.specs.Promise as ascii
@@ -69,7 +69,7 @@ module _ {version start first rows steps : ℕ} {input records x : List ℕ} (h 
   able = read-writable (reading .spelled)
 
   held : PacksAll (reading .records) (take (20 * rows) x)
-  held = record { formed = able .formed; bytes = reading .front }
+  held = read-held reading
 
   -- Records that were read are not refused.
   never : {n q : ℕ} → ascii.ExportStopped start benchChannel (take (20 * rows) x) n q → ⊥

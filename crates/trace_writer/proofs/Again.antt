@@ -6,7 +6,7 @@ use native.Mathlib.Omega.{arith}
 use lib.ListN.{length, take, drop, length-append}
 use lib.Seq.{take-at}
 use Rattle.record.specs.declared.Record.{Record}
-use Rattle.records.specs.Records.{packed}
+use Rattle.records.specs.Records.{packed, PacksAll}
 use Rattle.records.specs.StepBack.{stepBack}
 use Rattle.records.proofs.Packing.{packed-length}
 use Rattle.records.proofs.Records.{packs-all-one}
@@ -77,6 +77,11 @@ read-done {version} {start} {first} {rows} {out = out} (ReadPromise.done {t = t}
 read-done (ReadPromise.no-room h s r e q) = let z : _≡_ {A = ℕ} 0 8 = cc in absurd (omega arith)
 read-done (ReadPromise.refused {n = n} h f e q) = let z : 0 ≡ n = cc in absurd (omega (arith, refused-numbers f .0))
 
+-- Their bytes are a well-formed list.
+pub read-held : {version start first rows steps : ℕ} {text out x : List ℕ} (r : Read version start first rows steps text out x)
+    → PacksAll (r .records) (take (20 * rows) x)
+read-held r = record { formed = read-writable (r .spelled) .formed; bytes = r .front }
+
 -- The records are in their space.
 pub read-within : {version start first rows steps : ℕ} {text out x : List ℕ} → ReadPromise text out (readNumbers (outcome.Done version start rows steps first)) x
     → 20 * rows ≤ length x
@@ -108,7 +113,7 @@ again {rows = rows} {steps = steps} {page = page} p q l g =
     let r = read-done p in
     let w = answers.written q in
     let e : w .0 ≡ r .records =
-    packs-all-one (record { formed = w .1 .formed; bytes = w .2 }) (record { formed = read-writable (r .spelled) .formed; bytes = r .front }) in
+    packs-all-one (record { formed = w .1 .formed; bytes = w .2 }) (read-held r) in
     let n : length (w .0) ≡ rows = ap length e ∙ sym (r .counted) in
     let k : stepBack (w .0) ≡ steps = ap stepBack e ∙ sym (r .stepped) in
     let z = house-read page (w .1) (w .3) (w .4) (omega arith) g in
