@@ -23,13 +23,13 @@ def found(n): return 'none' if n is None else str(n)
 
 def read(text, room):
     seven, found = traces.read(text, room)
-    packed = b''.join(map(records.bits, found)).hex()
+    packed = records.packed(found).hex()
     return numbers(seven) + ('' if seven[0] else ' ' + packed) + ' untouched'
 
 def again(text, room, channel):
     (number, _, version, start, _, _, first), found = traces.read(text, 60)
     if number: return 'none'
-    s = b''.join(map(records.bits, found))
+    s = records.packed(found)
     assert len(s) == 60, text
     return written(version, start, first, s, room) + ' ' + exported(start, channel, s, room)
 
@@ -45,28 +45,32 @@ def explained(text, version, number): return numbers(explain.explain(text, versi
 
 def ascii_read(text, room):
     four, found = read_ascii.read(text, room)
-    packed = b''.join(map(records.bits, found)).hex()
+    packed = records.packed(found).hex()
     return numbers(four) + ('' if four[0] else ' ' + packed) + ' untouched'
 
 def returned(text, room, channel):
     (number, _, start, _), found = read_ascii.read(text, 700)
     if number: return 'none'
-    s = b''.join(map(records.bits, found))
+    s = records.packed(found)
     number, _, made, *_ = ascii_lines.export(start, channel, s, room)
     return exported(start, channel, s, room) + ('' if number else ' ' + ascii_read(made.encode(), 240))
 
 # One record, and one row
 
+def bits_of(f, last):
+    """fields, and the last six bits as one number: the mark and the spare bits"""
+    return records.bits(f, last >> 5, last)
+
 def pack(text, *given):
-    *f, room = given
-    number, place, s = records.pack(f, room)
+    *f, mark, room = given
+    number, place, s = records.pack(f, mark, room)
     return refused(number, place) if number else '0 0 %s untouched' % s.hex()
 
 def unpack(text, *given):
-    *f, spare, count = given
-    s = records.bits(f, spare).ljust(40, b'\xee')[:count]
-    number, place, f = records.unpack(s)
-    return '%s %d %d' % (s.hex(), number, place) + ('' if number else ' ' + fields(f))
+    *f, last, count = given
+    s = bits_of(f, last).ljust(40, b'\xee')[:count]
+    number, place, f, mark = records.unpack(s)
+    return '%s %d %d' % (s.hex(), number, place) + ('' if number else ' %s %d' % (fields(f), mark))
 
 def put(text, version, number, *f):
     if not records.well_formed(f) or not rows.carried(version, f[0], f[1]) or not 1 <= number <= rows.LAST_NUMBER: return 'none'
@@ -77,7 +81,7 @@ def put(text, version, number, *f):
 
 def record_of(words):
     given = [value(word) for word in words.split(' ')] + [0] * 8
-    return records.bits(given[:7], given[7])
+    return bits_of(given[:7], given[7])
 
 def records_of(text, own):
     """the bytes of records; the one behind a bar takes the place of one of them"""
@@ -127,7 +131,7 @@ def noise(text, seed, count, low):
 
 ARMS = {
     'read': (1, read), 'cut': (2, lambda text, room, count: read(text[:count], room)), 'again': (2, again), 'row': (2, row),
-    'pack': (8, pack), 'unpack': (9, unpack), 'put': (9, put), 'write': (6, write), 'export': (5, export),
+    'pack': (9, pack), 'unpack': (9, unpack), 'put': (9, put), 'write': (6, write), 'export': (5, export),
     'decimal': (0, lambda text: found(digits.decimal(text))), 'padded': (0, lambda text: found(digits.padded(text))),
     'hex': (0, lambda text: found(digits.hexadecimal(text))), 'digits': (2, spelled),
     'start': (1, lambda text, days: str(clock.start(days, text))), 'fraction': (1, fraction),
@@ -175,8 +179,8 @@ read room 100 id of eight digits, 536870912: %1) 0.000 1 Rx 20000000 0\r\n -> 7 
 read room 100 length 0 with no byte: %1) 0.000 1 Rx 0123 0\r\n -> 0 0 12 3160987200000 1 0 1
 read room 100 length 0 with one byte: %1) 0.000 1 Rx 0123 0 00\r\n -> 7 3 0 0 0 0 0 untouched
 read room 100 length 8 with RTR: %1) 0.000 1 Rx 0123 8 RTR\r\n -> 0 0 12 3160987200000 1 0 1
-pack offset 0 bus 1 kind 0 extended 0 id x123 length 2 data x0AFF000000000000 room 20 -> 0 0 000000000000080000048c82bfc0000000000000
-unpack offset 0 bus 1 kind 0 extended 0 id x123 length 2 data x0AFF000000000000 spare 0 bytes 20 -> 000000000000080000048c82bfc0000000000000 0 0
+pack offset 0 bus 1 kind 0 extended 0 id x123 length 2 data x0AFF000000000000 mark 0 room 20 -> 0 0 000000000000080000048c82bfc0000000000000
+unpack offset 0 bus 1 kind 0 extended 0 id x123 length 2 data x0AFF000000000000 last 0 bytes 20 -> 000000000000080000048c82bfc0000000000000 0 0
 export start 3160944000000 channel 1 bytes 20 room 300: % -> 0 0 50 1 0 29.02.2000
 start day 0: 0 -> 0
 start day 37704: 5364870833 -> 3257671952484
@@ -334,7 +338,7 @@ ascii room 100 first stamp of all: 30.12.1899 00:00:00.0000% -> 0 0 0 1 00000000
 ascii room 100 last stamp of all: 13.10.2173 23:59:59.9999% -> 0 0 8639999999999 1 000000000384080000048c000000000000000000 untouched
 ascii room 100 first stamp with 9 tenths of a millisecond: 29.02.2000 12:00:00.0009% -> 0 0 3160987200000 1 000000000384080000048c000000000000000000 untouched
 return room 300 channel 0 first stamp with 9 tenths of a millisecond: 29.02.2000 12:00:00.0009% -> 0 0 44 1 0 29.02.2000 12:00:00.0009 CAN #1 | Rx 123 0\r\n untouched 0 0 3160987200000 1 000000000384080000048c000000000000000000 untouched
-ascii room 100 second stamp 0.9 ms before, at the start: 29.02.2000 12:00:00.0009%29.02.2000 12:00:00.0000% -> 0 0 3160987200000 2 000000000384080000048c000000000000000000000000000000080000048c000000000000000000 untouched
+ascii room 100 second stamp 0.9 ms before, at the start: 29.02.2000 12:00:00.0009%29.02.2000 12:00:00.0000% -> 0 0 3160987200000 2 000000000384080000048c000000000000000000000000000000080000048c000000000000000020 untouched
 ascii room 100 second stamp 0.1 ms before the start: 29.02.2000 12:00:00.0019%29.02.2000 12:00:00.0009% -> 32 2 0 0 untouched
 ascii room 100 offset at the limit: 30.12.1899 00:00:00.0000%30.11.1908 19:29:36.7106% -> 0 0 0 2 000000000000080000048c000000000000000000ffffffffffc8080000048c000000000000000000 untouched
 ascii room 100 offset past the limit: 30.12.1899 00:00:00.0000%30.11.1908 19:29:36.7107% -> 33 2 0 0 untouched
@@ -354,26 +358,26 @@ read room 100 offset 140737488355.328: %1) 140737488355.328 1 Rx 0123 0\r\n -> 0
 read room 100 offset 999999999999.999: %1) 999999999999.999 1 Rx 0123 0\r\n -> 7 3 0 0 0 0 0 untouched
 read room 100 offset 1000000000000.000: %1) 1000000000000.000 1 Rx 0123 0\r\n -> 7 3 0 0 0 0 0 untouched
 read room 100 offset of a zero and 11 nines: %1) 099999999999.999 1 Rx 0123 0\r\n -> 7 3 0 0 0 0 0 untouched
-read room 100 row 1 at the limit, row 2 at 0: %1) 281474976710.655 1 Rx 0123 0\r\n2) 0.000 1 Rx 0123 0\r\n -> 0 0 12 3160987200000 2 2 1 ffffffffffff080000048c000000000000000000000000000000080000048c000000000000000000 untouched
+read room 100 row 1 at the limit, row 2 at 0: %1) 281474976710.655 1 Rx 0123 0\r\n2) 0.000 1 Rx 0123 0\r\n -> 0 0 12 3160987200000 2 2 1 ffffffffffff080000048c000000000000000000000000000000080000048c000000000000000020 untouched
 row version 12 number 1: 1) 281474976710.655 1 Rx 0123 0 -> 281474976710655 1 0 0 291 0 0000000000000000
 row version 12 number 1: 1) 281474976711.000 1 Rx 0123 0 -> none
 row version 11 number 1: 1) 281474976710.655 Rx 0123 0 -> none
-pack offset 281474976710655 bus 1 kind 0 extended 0 id x123 length 2 data x0AFF000000000000 room 20 -> 0 0 ffffffffffff080000048c82bfc0000000000000 untouched
-pack offset 281474976710656 bus 1 kind 0 extended 0 id x123 length 2 data x0AFF000000000000 room 20 -> 23 1 untouched
-pack offset 281474976710656 bus 1 kind 0 extended 0 id x123 length 2 data x0AFF000000000000 room 19 -> 23 1 untouched
-pack offset 562949953421311 bus 1 kind 0 extended 0 id x123 length 2 data x0AFF000000000000 room 21 -> 23 1 untouched
-pack offset xFFFFFFFFFFFFFFFF bus 1 kind 0 extended 0 id x123 length 2 data x0AFF000000000000 room 21 -> 23 1 untouched
-pack offset 281474976710655 bus 16 kind 1 extended 1 id x1FFFFFFF length 8 data xFFFFFFFFFFFFFFFF room 21 -> 0 0 ffffffffffff81fffffffe3fffffffffffffffc0 untouched
-unpack offset 140737488355328 bus 1 kind 0 extended 0 id x123 length 2 data x0AFF000000000000 spare 0 bytes 20 -> 800000000000080000048c82bfc0000000000000 0 0 140737488355328 1 0 0 291 2 0aff000000000000
-unpack offset 281474976710655 bus 1 kind 0 extended 0 id x123 length 2 data x0AFF000000000000 spare 0 bytes 20 -> ffffffffffff080000048c82bfc0000000000000 0 0 281474976710655 1 0 0 291 2 0aff000000000000
+pack offset 281474976710655 bus 1 kind 0 extended 0 id x123 length 2 data x0AFF000000000000 mark 0 room 20 -> 0 0 ffffffffffff080000048c82bfc0000000000000 untouched
+pack offset 281474976710656 bus 1 kind 0 extended 0 id x123 length 2 data x0AFF000000000000 mark 0 room 20 -> 23 1 untouched
+pack offset 281474976710656 bus 1 kind 0 extended 0 id x123 length 2 data x0AFF000000000000 mark 0 room 19 -> 23 1 untouched
+pack offset 562949953421311 bus 1 kind 0 extended 0 id x123 length 2 data x0AFF000000000000 mark 0 room 21 -> 23 1 untouched
+pack offset xFFFFFFFFFFFFFFFF bus 1 kind 0 extended 0 id x123 length 2 data x0AFF000000000000 mark 0 room 21 -> 23 1 untouched
+pack offset 281474976710655 bus 16 kind 1 extended 1 id x1FFFFFFF length 8 data xFFFFFFFFFFFFFFFF mark 0 room 21 -> 0 0 ffffffffffff81fffffffe3fffffffffffffffc0 untouched
+unpack offset 140737488355328 bus 1 kind 0 extended 0 id x123 length 2 data x0AFF000000000000 last 0 bytes 20 -> 800000000000080000048c82bfc0000000000000 0 0 140737488355328 1 0 0 291 2 0aff000000000000
+unpack offset 281474976710655 bus 1 kind 0 extended 0 id x123 length 2 data x0AFF000000000000 last 0 bytes 20 -> ffffffffffff080000048c82bfc0000000000000 0 0 281474976710655 1 0 0 291 2 0aff000000000000
 put version 12 number 999999 offset 281474976710655 bus 16 kind 1 extended 1 id x1FFFFFFF length 8 data xFFFFFFFFFFFFFFFF -> 65 67 \xee\xee999999) 281474976710.655 16 Tx 1FFFFFFF 8 FF FF FF FF FF FF FF FF untouched
 put version 12 number 999999 offset 281474976710656 bus 16 kind 1 extended 1 id x1FFFFFFF length 8 data xFFFFFFFFFFFFFFFF -> none
 put version 11 number 999999 offset 281474976710600 bus 0 kind 1 extended 1 id x1FFFFFFF length 8 data xFFFFFFFFFFFFFFFF -> 60 62 \xee\xee999999) 281474976710.6 Tx 1FFFFFFF 8 FF FF FF FF FF FF FF FF untouched
 write version 12 start 0 first 999999 bytes 20 room 111: 281474976710655 16 1 1 x1FFFFFFF 8 xFFFFFFFFFFFFFFFF -> 25 0 untouched
 write version 12 start 0 first 999999 bytes 20 room 112: 281474976710655 16 1 1 x1FFFFFFF 8 xFFFFFFFFFFFFFFFF -> 0 0 112 ;$FILEVERSION=1.2\r\n;$STARTTIME=0.0000000000\r\n999999) 281474976710.655 16 Tx 1FFFFFFF 8 FF FF FF FF FF FF FF FF\r\n untouched 0 0 12 0 1 0 999999 ffffffffffff81fffffffe3fffffffffffffffc0 untouched
 write version 11 start 0 first 1 bytes 20 room 300: 281474976710655 0 0 0 x123 2 x0AFF000000000000 -> 24 1 untouched
-write version 12 start 8639999999999 first 999997 bytes 60 room 249: 281474976710655 16 1 1 x1FFFFFFF 8 xFFFFFFFFFFFFFFFF;281474976710654 16 1 1 x1FFFFFFF 8 xFFFFFFFFFFFFFFFF;281474976710655 16 1 1 x1FFFFFFF 8 xFFFFFFFFFFFFFFFF -> 25 0 untouched
-write version 12 start 8639999999999 first 999997 bytes 60 room 250: 281474976710655 16 1 1 x1FFFFFFF 8 xFFFFFFFFFFFFFFFF;281474976710654 16 1 1 x1FFFFFFF 8 xFFFFFFFFFFFFFFFF;281474976710655 16 1 1 x1FFFFFFF 8 xFFFFFFFFFFFFFFFF -> 0 0 250
+write version 12 start 8639999999999 first 999997 bytes 60 room 249: 281474976710655 16 1 1 x1FFFFFFF 8 xFFFFFFFFFFFFFFFF;281474976710654 16 1 1 x1FFFFFFF 8 xFFFFFFFFFFFFFFFF 32;281474976710655 16 1 1 x1FFFFFFF 8 xFFFFFFFFFFFFFFFF -> 25 0 untouched
+write version 12 start 8639999999999 first 999997 bytes 60 room 250: 281474976710655 16 1 1 x1FFFFFFF 8 xFFFFFFFFFFFFFFFF;281474976710654 16 1 1 x1FFFFFFF 8 xFFFFFFFFFFFFFFFF 32;281474976710655 16 1 1 x1FFFFFFF 8 xFFFFFFFFFFFFFFFF -> 0 0 250
 export start 0 channel 1 bytes 20 room 46: 281474976710655 1 0 0 x123 -> 0 0 44 1 0 30.11.1908 19:29:36.7106 CAN #1 | Rx 123 0\r\n untouched
 export start 8639999999999 channel 1 bytes 20 room 46: 281474976710655 1 0 0 x123 -> 0 0 44 1 0 14.09.2182 19:29:36.7096 CAN #1 | Rx 123 0\r\n untouched
 export start 8639999999999 channel 1 bytes 20 room 46: 281404800000999 1 0 0 x123 -> 0 0 44 1 0 13.09.2182 23:59:59.9999 CAN #1 | Rx 123 0\r\n untouched
@@ -460,8 +464,8 @@ return room 300 channel 1 lines of channels 0, 1 and 0: % CAN #0 | Rx 123 0\n% C
 return room 0 channel 16 no lines:  -> 0 0 0 0 0  untouched 0 0 0 0  untouched
 return room 0 channel 17 no lines:  -> 35 0 untouched
 return room 300 channel 17 refused: x\r\n -> none
-again room 300 channel 0 version 1.1: ;$FILEVERSION=1.1\r\n;$STARTTIME=36585.5\r\n1) 0.0 Rx 0123 2 0A FF\r\n2) 1500.2 Tx 18AB0001 0\r\n3) 1500.1 Rx 0124 3 RTR\r\n -> 0 0 123 ;$FILEVERSION=1.1\r\n;$STARTTIME=36585.5000000000\r\n1) 0.0 Rx 0123 2 0A FF\r\n2) 1500.2 Tx 18AB0001 0\r\n3) 1500.1 Rx 0124 3 RTR\r\n untouched 0 0 11 3160987200000 3 3 1 000000000000000000048c82bfc000000000000000000016e42801e2ac000400000000000000000000000016e3c40200000490c00000000000000000 untouched 0 0 111 2 1 29.02.2000 12:00:00.0000 CAN #0 | Rx 123 2 0a ff\r\n29.02.2000 12:00:01.5002 CANExt #0 | EXTENDED Tx 18ab0001 0\r\n untouched
-again room 300 channel 17 version 1.1: ;$FILEVERSION=1.1\r\n;$STARTTIME=36585.5\r\n1) 0.0 Rx 0123 2 0A FF\r\n2) 1500.2 Tx 18AB0001 0\r\n3) 1500.1 Rx 0124 3 RTR\r\n -> 0 0 123 ;$FILEVERSION=1.1\r\n;$STARTTIME=36585.5000000000\r\n1) 0.0 Rx 0123 2 0A FF\r\n2) 1500.2 Tx 18AB0001 0\r\n3) 1500.1 Rx 0124 3 RTR\r\n untouched 0 0 11 3160987200000 3 3 1 000000000000000000048c82bfc000000000000000000016e42801e2ac000400000000000000000000000016e3c40200000490c00000000000000000 untouched 35 0 untouched
+again room 300 channel 0 version 1.1: ;$FILEVERSION=1.1\r\n;$STARTTIME=36585.5\r\n1) 0.0 Rx 0123 2 0A FF\r\n2) 1500.2 Tx 18AB0001 0\r\n3) 1500.1 Rx 0124 3 RTR\r\n -> 0 0 123 ;$FILEVERSION=1.1\r\n;$STARTTIME=36585.5000000000\r\n1) 0.0 Rx 0123 2 0A FF\r\n2) 1500.2 Tx 18AB0001 0\r\n3) 1500.1 Rx 0124 3 RTR\r\n untouched 0 0 11 3160987200000 3 3 1 000000000000000000048c82bfc000000000000000000016e42801e2ac000400000000000000000000000016e3c40200000490c00000000000000020 untouched 0 0 111 2 1 29.02.2000 12:00:00.0000 CAN #0 | Rx 123 2 0a ff\r\n29.02.2000 12:00:01.5002 CANExt #0 | EXTENDED Tx 18ab0001 0\r\n untouched
+again room 300 channel 17 version 1.1: ;$FILEVERSION=1.1\r\n;$STARTTIME=36585.5\r\n1) 0.0 Rx 0123 2 0A FF\r\n2) 1500.2 Tx 18AB0001 0\r\n3) 1500.1 Rx 0124 3 RTR\r\n -> 0 0 123 ;$FILEVERSION=1.1\r\n;$STARTTIME=36585.5000000000\r\n1) 0.0 Rx 0123 2 0A FF\r\n2) 1500.2 Tx 18AB0001 0\r\n3) 1500.1 Rx 0124 3 RTR\r\n untouched 0 0 11 3160987200000 3 3 1 000000000000000000048c82bfc000000000000000000016e42801e2ac000400000000000000000000000016e3c40200000490c00000000000000020 untouched 35 0 untouched
 convert records 72800 page 313040 version 1.1: ;$FILEVERSION=1.1\r\n;$STARTTIME=25569.99999999\r\n; comment\r\n  1)   0.1  Tx  07ff  1  aB  \r\n2) 1.0 Rx 1FFFFFFF 0\r\n -> 108 01.01.1970 23:59:59.9991 CAN #1 | Tx 7ff 1 ab\r\n02.01.1970 00:00:00.0000 CANExt #1 | EXTENDED Rx 1fffffff 0\r\n untouched
 convert records 72800 page 313040 version 1.1, both forms, both ways: ;$FILEVERSION=1.1\r\n;$STARTTIME=36585.5\r\n1) 0.0 Rx 0123 2 0A FF\r\n2) 0.1 Tx 07FF 0\r\n3) 0.2 Rx 00000123 0\r\n4) 0.3 Tx 1FFFFFFF 1 AB\r\n5) 0.4 Rx 0124 3 RTR\r\n -> 219 29.02.2000 12:00:00.0000 CAN #1 | Rx 123 2 0a ff\r\n29.02.2000 12:00:00.0001 CAN #1 | Tx 7ff 0\r\n29.02.2000 12:00:00.0002 CANExt #1 | EXTENDED Rx 00000123 0\r\n29.02.2000 12:00:00.0003 CANExt #1 | EXTENDED Tx 1fffffff 1 ab\r\n untouched
 convert records 20 page 43 version 1.1: ;$FILEVERSION=1.1\r\n;$STARTTIME=36585.5\r\n1) 0.0 Rx 0123 0\r\n -> none untouched

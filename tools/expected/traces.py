@@ -37,7 +37,7 @@ def read(text, room):
             if r is None: return refused(7, place)
             found.append(r)
     if 20 * len(found) > room: return refused(8, 0)
-    back = next((i + 1 for i in range(1, len(found)) if found[i][0] < found[i - 1][0]), 0)
+    back = next((k for k, mark in enumerate(records.marks(found), 1) if mark), 0)
     return (0, 0, version, began, len(found), back, first), found
 
 def numbered(first, count):

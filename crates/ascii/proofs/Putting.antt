@@ -3,13 +3,13 @@ use Prim.Native.Nat.{ℕ, _+_, _≤_, _<_}
 use mathlib.Core.Path.{_≡_, refl, ap}
 use mathlib.Core.List.{List, [], _∷_, _++_, append-nil}
 use native.Mathlib.Omega.{arith}
-use lib.ListN.{length, take, drop, length-append}
+use lib.ListN.{length, length-append}
 use Rattle.base.specs.inner.Wrote.{Wrote}
 use Rattle.base.proofs.Lists.{then}
 use Rattle.clock.specs.declared.DateTime.{DateTime}
 use Rattle.clock.specs.Stamp.{Stamp}
 use Rattle.record.specs.declared.Record.{Record}
-use Rattle.record.specs.Record.{Packs}
+use Rattle.record.specs.inner.PackedAt.{PackedAt}
 use Rattle.records.proofs.Ahead.{Ahead, ahead, later, after-next, ahead-more, all-behind}
 use Rattle.ascii.specs.Promise.{lineOf, Exports, none}
 use Rattle.ascii.specs.inner.Passes.{LinePut, line, left, LinesFit, LinesPut}
@@ -37,7 +37,7 @@ putting f = record {
   same = refl;
 }
 
-module _ {start channel : ℕ} {s old out : List ℕ} {at p : ℕ} (f : Putting start channel s old out at p) {r : Record} {z : DateTime} (h : at < length s) (b : Packs r (take 20 (drop at s))) (y : Stamp start (r .offset) z) where
+module _ {start channel : ℕ} {s old out : List ℕ} {at p : ℕ} (f : Putting start channel s old out at p) {r : Record} {z : DateTime} (h : at < length s) (b : PackedAt s at r) (y : Stamp start (r .offset) z) where
   next : Exports start channel (r ∷ later (f .records) h b) (f .text)
   next = rw (after-next (f .records) h b) at (f .to-come)
 

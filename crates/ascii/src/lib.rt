@@ -82,7 +82,7 @@ fn line_bytes(channel: u64, r: Record) -> usize
     line_length(channel_of(channel, r.bus), r)
 }
 
-// The first pass: every record is judged, and the lines are measured and counted.
+// The first pass: every record and its mark is judged, and the lines are measured and counted. `last` is the offset of the record before.
 fn measure_lines(channel: u64, records: &[u8]) -> Measured
     requires { ⌜ Whole (now records) × (channel ≤ lastBus) ⌝ }
     ensures { λ m. ⌜ MeasuresLines channel (now (records .entry)) m ⌝ }
@@ -91,12 +91,14 @@ fn measure_lines(channel: u64, records: &[u8]) -> Measured
     let mut k: u64 = 0;
     let mut bytes: usize = 0;
     let mut lines: u64 = 0;
+    let mut last: u64 = 0;
     while at < records.len() {
         k += 1;
-        let e = record_at(records, at);
+        let e = record_at(records, at, last);
         let Entry::Is(r) = e else {
             return Measured::Bad { place: k };
         };
+        last = r.offset;
         bytes += line_bytes(channel, r);
         lines += frame(r);
         at += 20;

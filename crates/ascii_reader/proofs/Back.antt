@@ -134,7 +134,7 @@ other {n} e h = let z : 0 ≡ n = cc in omega arith
 told : {a b m n : ℕ} → 0 ∷ 0 ∷ a ∷ n ∷ [] ≡ 0 ∷ 0 ∷ b ∷ m ∷ [] → (a ≡ b) × (n ≡ m)
 told e = (cc, cc)
 
--- What `read_ascii` handed out: a well-formed list of what the text spells.
+-- What `read_ascii` handed out: a well-formed list, so that every mark is true, of what the text spells.
 pub record AsciiHeld (start n : ℕ) (text after : List ℕ) : Type 0 where
   pub records : List Record
   pub spelled : SpellsAscii start records text

@@ -1,6 +1,6 @@
--- What the second pass keeps: the records of the lines up to `at` are packed, and those of the rest are to come.
+-- What the second pass keeps: the records of the lines up to `at` are packed, and those of the rest are to come. `last` is the offset of the last one.
 use Prim.Native.Nat.{ℕ, _+_, _*_, _-_, _≤_, _<_}
-use mathlib.Core.Path.{_≡_, refl, ap, _∙_}
+use mathlib.Core.Path.{_≡_, refl, ap, sym, _∙_}
 use mathlib.Core.List.{List, [], _∷_, _++_, append-nil, append-assoc}
 use native.Mathlib.Omega.{arith}
 use lib.ListN.{length, drop, length-drop, drop-of-length-le}
@@ -13,9 +13,8 @@ use Rattle.clock.specs.Stamp.{ticks}
 use Rattle.record.specs.declared.Record.{Record}
 use Rattle.record.specs.Bytes.{bytes}
 use Rattle.record.specs.Record.{number, WellFormed}
-use Rattle.record.proofs.Bytes.{length-bytes}
-use Rattle.records.specs.Records.{packed}
-use Rattle.records.proofs.Packing.{packed-none, packed-more, packed-length}
+use Rattle.records.specs.Records.{markAfter, lastOffset, packed}
+use Rattle.records.proofs.Packing.{mark-bit, last-more, marked, marked-length, packed-none, packed-more, packed-length}
 use Rattle.ascii_line_reader.specs.declared.LineRead.{LineRead}
 use Rattle.ascii_line_reader.specs.AsciiLine.{withOffset, instant, AsciiLine}
 use Rattle.ascii_line_reader.proofs.Theorems.{line-one, line-moved, line-formed}
@@ -26,7 +25,7 @@ use Rattle.ascii_reader.proofs.Ends.{ended-one, ended-none}
 use Rattle.ascii_reader.proofs.One.{record-one, one-result}
 use Rattle.ascii_reader.proofs.Windows.{Found}
 
-pub record Filling (start : ℕ) (text old out : List ℕ) (at o : ℕ) : Type 0 where
+pub record Filling (start : ℕ) (text old out : List ℕ) (at o last : ℕ) : Type 0 where
   pub within : at ≤ length text
   pub before : List Record
   pub after : List Record
@@ -34,8 +33,9 @@ pub record Filling (start : ℕ) (text old out : List ℕ) (at o : ℕ) : Type 0
   pub rest : Lines start after (drop at text)
   pub room : o + 20 * length after ≤ length old
   pub wrote : Wrote old out 0 o (packed before)
+  pub latest : last ≡ lastOffset before
 
-pub filling : {start : ℕ} {text old : List ℕ} → RecordsFit text start old → Filling start text old old 0 0
+pub filling : {start : ℕ} {text old : List ℕ} → RecordsFit text start old → Filling start text old old 0 0 0
 filling f = record {
   within = omega arith;
   before = [];
@@ -44,6 +44,7 @@ filling f = record {
   rest = f .spelled .lines;
   room = let r = f .room in omega arith;
   wrote = rw packed-none (record { next = refl; stored = refl });
+  latest = refl;
 }
 
 -- The record of the next line is the first of those to come: its offset is the stamp, of n times 100 microseconds, less the start.
@@ -71,7 +72,7 @@ head {start} {n} {r = r} (line {r = x} {rs = others} u b k h f) t a q =
       rest = rw (z .1) at f;
     }
 
-module _ {start : ℕ} {text old out : List ℕ} {at o : ℕ} (f : Filling start text old out at o) where
+module _ {start : ℕ} {text old out : List ℕ} {at o last : ℕ} (f : Filling start text old out at o last) where
   pub out-length : length out ≡ length old
   out-length = ap length (f .wrote .stored) ∙ length-sets old 0 (packed (f .before))
 
@@ -86,17 +87,20 @@ module _ {start : ℕ} {text old out : List ℕ} {at o : ℕ} (f : Filling start
     pub stamp-low : start * 1000 ≤ x .ticks * 100
     stamp-low = next .low
 
-    pub line-room : (o + 20 ≤ length out) × WellFormed this
-    line-room =
+    pub line-room : {mark : ℕ} → mark ≡ markAfter last (this .offset) → (o + 20 ≤ length out) × WellFormed this × (mark ≤ 1)
+    line-room e =
         let h = next in
         let m = f .room in
-        (omega (arith, out-length, ap length (h .these)), line-formed (line-moved (x .ticks * 100 - start * 1000) (g .is)) (h .high))
+        let b = mark-bit last (this .offset) in
+        (omega (arith, out-length, ap length (h .these)), line-formed (line-moved (x .ticks * 100 - start * 1000) (g .is)) (h .high), rw e b)
 
-    pub stored-line : {new : List ℕ} → new ≡ sets out o (bytes 20 (number this)) → Filling start text old new (x .end) (o + 20)
-    stored-line {new} e =
+    pub stored-line : {mark : ℕ} {new : List ℕ} → mark ≡ markAfter last (this .offset) → new ≡ sets out o (bytes 20 (number this mark))
+        → Filling start text old new (x .end) (o + 20) (this .offset)
+    stored-line {new = new} v e =
         let h = next in
         let m = f .room in
-        let w : Wrote out new o (o + 20) (bytes 20 (number this)) = record { next = omega (arith, length-bytes 20 (number this)); stored = e } in
+        let b = lastOffset (f .before) in
+        let w : Wrote out new o (o + 20) (marked b this) = record { next = omega (arith, marked-length b this); stored = rw (v, f .latest) at e } in
         record {
           within = g .within;
           before = f .before ++ (this ∷ []);
@@ -105,6 +109,7 @@ module _ {start : ℕ} {text old out : List ℕ} {at o : ℕ} (f : Filling start
           rest = h .rest;
           room = omega (arith, ap length (h .these));
           wrote = rw (packed-more (f .before) this) (then (f .wrote) w);
+          latest = sym (last-more (f .before) this);
         }
 
   -- Some line is found, as long as something is left.

@@ -10,6 +10,7 @@ use fields::WINDOW;
 use lines::LINE_LIMIT;
 use record::Record;
 use record::put_record;
+use records::mark_after;
 use row_reader::no_window;
 use trace::SIZE_LIMIT;
 ghost use mathlib.Core.Path.{_≡_};
@@ -146,13 +147,14 @@ fn with_offset(r: Record, offset: u64) -> Record
     }
 }
 
-// The second pass: the records of the lines are packed into the output, which has room for them. No line is refused any more.
+// The second pass: the records of the lines are packed into the output, which has room for them, each with its mark. No line is refused any more.
 fn fill(text: &[u8], start: u64, hex: &[u8; 256], out: &mut [u8])
     requires { ⌜ RecordsFit (now text) start (now out) × HexTable (now hex) ⌝ }
     ensures { λ _. ⌜ Filled (now (text .entry)) (now (out .entry)) (now (out .exit)) ⌝ }
 {
     let mut at = 0;
     let mut o = 0;
+    let mut last: u64 = 0;
     let mut w = no_window();
     let mut base = 0;
     window::fill_window(text, 0, &mut w);
@@ -164,7 +166,8 @@ fn fill(text: &[u8], start: u64, hex: &[u8; 256], out: &mut [u8])
         }
         let offset = x.ticks * 100 - start * 1000;
         let r = x.r;
-        put_record(out, o, with_offset(r, offset));
+        put_record(out, o, with_offset(r, offset), mark_after(last, offset));
+        last = offset;
         o += 20;
         at = x.end;
     }

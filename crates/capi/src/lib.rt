@@ -16,7 +16,7 @@ use trace::read;
 use trace_writer::Written;
 use trace_writer::write;
 ghost use Rattle.record.specs.Promise.{PackPromise, UnpackPromise};
-ghost use Rattle.record.specs.Record.{recordOf};
+ghost use Rattle.record.specs.Record.{recordOf, markIn};
 ghost use Rattle.trace.specs.Promise.{ReadPromise};
 ghost use Rattle.trace_writer.specs.Promise.{WritePromise};
 ghost use Rattle.ascii.specs.Promise.{ExportPromise};
@@ -68,14 +68,14 @@ pub extern "C" fn bo_write(
     }
 }
 
-// Number, place, offset, bus, kind, extended, ID, length, data.
+// Number, place, offset, bus, kind, extended, ID, length, data, mark.
 #[no_mangle]
-pub extern "C" fn bo_unpack(bytes: &[u8], answer: &mut [u64; 9])
+pub extern "C" fn bo_unpack(bytes: &[u8], answer: &mut [u64; 10])
     ensures { λ _. ⌜ UnpackPromise (now (bytes .entry)) (now (answer .exit)) ⌝ }
 {
     let a = unpack(bytes);
     match a {
-        Unpacked::Fields(r) => {
+        Unpacked::Fields { r, mark } => {
             *answer = [
                 0,
                 0,
@@ -86,23 +86,35 @@ pub extern "C" fn bo_unpack(bytes: &[u8], answer: &mut [u64; 9])
                 r.id,
                 r.len,
                 r.data,
+                mark,
             ];
         }
         Unpacked::NotTwenty => {
-            *answer = [20, 0, 0, 0, 0, 0, 0, 0, 0];
+            *answer = [20, 0, 0, 0, 0, 0, 0, 0, 0, 0];
         }
         Unpacked::Malformed => {
-            *answer = [23, 1, 0, 0, 0, 0, 0, 0, 0];
+            *answer = [23, 1, 0, 0, 0, 0, 0, 0, 0, 0];
         }
     }
 }
 
-// Number, place. The fields are offset, bus, kind, extended, ID, length, data, each with any value.
+// Number, place. The fields are offset, bus, kind, extended, ID, length, data, mark, each with any value.
 #[no_mangle]
-pub extern "C" fn bo_pack(fields: &[u64; 7], out: &mut [u8], answer: &mut [u64; 2])
-    ensures { λ _. ⌜ PackPromise (recordOf (now (fields .entry))) (now (out .entry)) (now (answer .exit)) (now (out .exit)) ⌝ }
+pub extern "C" fn bo_pack(fields: &[u64; 8], out: &mut [u8], answer: &mut [u64; 2])
+    ensures { λ _. ⌜ PackPromise (recordOf (now (fields .entry))) (markIn (now (fields .entry))) (now (out .entry)) (now (answer .exit)) (now (out .exit)) ⌝ }
 {
-    let a = pack(of_fields(fields), out);
+    let r = of_fields(
+        &[
+            fields[0],
+            fields[1],
+            fields[2],
+            fields[3],
+            fields[4],
+            fields[5],
+            fields[6],
+        ],
+    );
+    let a = pack(r, fields[7], out);
     match a {
         Packed::Done => {
             *answer = [0, 0];

@@ -67,11 +67,11 @@ fn packed(a: Packed, out: &[u8; 24]) {
     }
 }
 
-// Packs a record into an output of `room` bytes.
-fn pack(r: Record, room: usize) {
+// Packs a record with a mark into an output of `room` bytes.
+fn pack(r: Record, mark: u64, room: usize) {
     let mut out = [238u8; 24];
     if room <= 24 {
-        let a = record::pack(r, &mut out[0..room]);
+        let a = record::pack(r, mark, &mut out[0..room]);
         packed(a, &out);
     }
 }
@@ -102,15 +102,15 @@ fn middle(r: Record) -> u64 {
     (a * 16 + r.len % 16) * 64 + r.data / 288230376151711744 % 64
 }
 
-// Puts the bits of a record, well formed or not, and six spare bits. What does not fit its bits is cut off.
-fn put_bits(out: &mut [u8], at: usize, r: Record, spare: u64)
+// Puts the bits of a record, well formed or not, and the last six: the mark and five spare bits. What does not fit its bits is cut off.
+fn put_bits(out: &mut [u8], at: usize, r: Record, last: u64)
     requires { ⌜ at + 20 ≤ length (now out) ⌝ }
 {
     let p = at + 4;
     let q = at + 12;
     put_word(out, at, 4, r.offset / 65536);
     put_word(out, p, 8, middle(r));
-    put_word(out, q, 8, r.data % 288230376151711744 * 64 + spare % 64);
+    put_word(out, q, 8, r.data % 288230376151711744 * 64 + last % 64);
 }
 
 // Puts a record that is given in words as the k-th, from 1.
@@ -159,10 +159,11 @@ fn unpacked(s: &[u8]) {
     bytes(s);
     let u = record::unpack(s);
     match u {
-        Unpacked::Fields(r) => {
+        Unpacked::Fields { r, mark } => {
             number(0);
             number(0);
             fields(r);
+            number(mark);
         }
         Unpacked::NotTwenty => {
             number(20);
@@ -187,7 +188,7 @@ pub(crate) fn tried(word: u64, line: &[u8]) -> bool {
     let a = numbers(line, 2, 2);
     match word {
         PACK => {
-            pack(record_of(a), a[7] as usize);
+            pack(record_of(a), a[7], a[8] as usize);
             true
         }
         UNPACK => {

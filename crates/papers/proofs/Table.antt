@@ -13,6 +13,7 @@ use Rattle.record.specs.declared.Record.{Record}
 use Rattle.record.specs.Bytes.{bytes}
 use Rattle.record.specs.Record.{WellFormed, number, Packs}
 use Rattle.record.proofs.Frames.{frame-formed}
+use Rattle.record.proofs.OneRecord.{packs}
 use Rattle.row.specs.Row.{Row}
 use Rattle.row.specs.House.{numberText, offsetText, busTexts, typeText, idText, dataTexts, rowTexts, rowText}
 use Rattle.row.specs.Versions.{v11, v12}
@@ -35,8 +36,8 @@ first-formed =
     frame-formed _ (omega arith) (omega arith) (omega arith) (omega arith) (λ e. omega arith) (omega arith) (omega arith) (omega arith) refl
     (⊎-elim (λ e. absurd (omega arith)) (λ e. absurd (omega arith)))
 
-first-row : (r : Record) × Row 12 1 r (rowText 12 1 first) × Packs r (bytes 20 (number first))
-first-row = (first, row-spelled first-formed (v12 (omega arith) (omega arith)) (omega arith) (omega arith), record { formed = first-formed; packed = refl })
+first-row : (r : Record) × Row 12 1 r (rowText 12 1 first) × Packs r 0 (bytes 20 (number first 0))
+first-row = (first, row-spelled first-formed (v12 (omega arith) (omega arith)) (omega arith) (omega arith), packs first-formed (omega arith))
 
 -- 39878.6772258947
 left : StartLine (39878 * dayMs + 58512317) (startLine 39878 10 6772258947) × (58512317 < dayMs)

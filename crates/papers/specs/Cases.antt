@@ -22,7 +22,7 @@ pub data Case : Type 0 where
   taken : ℕ → String → Record → Case
   -- it is row 1 of no record
   refused : ℕ → String → Case
-  -- it is row 1 of a record that is packed as these bytes
+  -- it is row 1 of a record that is packed as these bytes, as the first of a list: with mark 0
   packed : ℕ → String → List ℕ → Case
   -- a day is this date
   dated : ℕ → CalendarDay → Case
@@ -34,7 +34,7 @@ Holds (leaves line day ms) = StartLine (day * dayMs + ms) (text line) × (ms < d
 Holds (no-start line) = (ms : ℕ) → StartLine ms (text line) → ⊥
 Holds (taken version line r) = Row version 1 r (text line)
 Holds (refused version line) = (r : Record) → Row version 1 r (text line) → ⊥
-Holds (packed version line bytes) = (r : Record) × Row version 1 r (text line) × Packs r bytes
+Holds (packed version line bytes) = (r : Record) × Row version 1 r (text line) × Packs r 0 bytes
 Holds (dated day date) = Date day date
 
 -- A frame received at offset 0 of version 1.1, all its data 0.

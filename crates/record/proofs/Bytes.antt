@@ -6,7 +6,7 @@ use native.Mathlib.Nat.{add-zero, zero-add, add-suc, pow-suc}
 use native.Mathlib.Numerals.{add-one}
 use native.Mathlib.Omega.{arith}
 use lib.ListN.{length, getD, set, length-append}
-use lib.Seq.{slice, slice-empty, sets}
+use lib.Seq.{slice, slice-empty, sets, getD-at}
 use lib.Arith.{digits-div, digits-mod}
 use Rattle.base.proofs.Lists.{slice-snoc, slice-join, same-cut, sets-append}
 use Rattle.record.specs.Bytes.{bytes}
@@ -24,6 +24,10 @@ none n = refl
 one-more : (k n : ℕ) → bytes (suc k) n ≡ bytes k (n / 256) ++ ((n % 256) ∷ [])
 unfolding bytes
 one-more k n = refl
+
+-- The last byte.
+pub last-byte : (k n : ℕ) → getD (bytes (suc k) n) k 0 ≡ n % 256
+last-byte k n = rw one-more (getD-at (bytes k (n / 256)) (n % 256) [] 0 k (length-bytes k (n / 256)))
 
 snoc-below : (l : List ℕ) (x : ℕ) → ((i : ℕ) → getD l i 0 < 256) → x < 256
     → (i : ℕ) → getD (l ++ (x ∷ [])) i 0 < 256

@@ -1,4 +1,4 @@
--- The 160 bits as words of 32, 64 and 64 bits, and that the number tells the fields.
+-- The 160 bits as words of 32, 64 and 64 bits, and that the number tells the fields and the mark.
 use Prim.Native.Nat.{ℕ, _+_, _*_, _/_, _%_, _^_, _≤_, _<_}
 use mathlib.Core.Path.{_≡_, refl, ap, sym, _∙_}
 use mathlib.Core.List.{List, _++_}
@@ -48,31 +48,33 @@ after r o = ((((o * 2 ^ 5 + r .bus) * 2 ^ 3 + r .kind) * 2 + r .extended) * 2 ^ 
 abbrev middleOf : Record → ℕ
 middleOf r = after r (r .offset % 2 ^ 16) * 2 ^ 6 + r .«data» / 2 ^ 58
 
--- The number tells the fields.
-pub same-record : {r t : Record} → Widths r → Widths t → number r ≡ number t → r ≡ t
-same-record {r} {t} a b e =
-    let z : 0 < 2 ^ 6 = omega arith in
-    let e′ : number r + 0 ≡ number t + 0 = rw (add-zero, add-zero) e in
-    let p0 = parts (2 ^ 6) z z e′ in
+-- The number tells the fields and the mark.
+pub same-record : {r t : Record} {m n : ℕ} → Widths r → Widths t → m ≤ 1 → n ≤ 1 → number r m ≡ number t n → (r ≡ t) × (m ≡ n)
+same-record {r} {t} {m} {n} a b c d e =
+    let z : 0 < 2 ^ 5 = omega arith in
+    let e′ : number r m + 0 ≡ number t n + 0 = rw (add-zero, add-zero) e in
+    let p0 = parts 2 (omega arith) (omega arith) (parts (2 ^ 5) z z e′ .0) in
     let p1 = parts (2 ^ 64) (a .«data») (b .«data») (p0 .0) in
     let p2 = parts (2 ^ 4) (a .len) (b .len) (p1 .0) in
     let p3 = parts (2 ^ 29) (a .id) (b .id) (p2 .0) in
     let p4 = parts 2 (a .extended) (b .extended) (p3 .0) in
     let p5 = parts (2 ^ 3) (a .kind) (b .kind) (p4 .0) in
-    let p6 = parts (2 ^ 5) (a .bus) (b .bus) (p5 .0) in
-    λ i. record {
-      offset = p6 .0 i;
-      bus = p6 .1 i;
-      kind = p5 .1 i;
-      extended = p4 .1 i;
-      id = p3 .1 i;
-      len = p2 .1 i;
-      «data» = p1 .1 i;
-    }
+    let p6 = parts (2 ^ 5) (a .bus) (b .bus) (p5 .0) in (
+      λ i. record {
+        offset = p6 .0 i;
+        bus = p6 .1 i;
+        kind = p5 .1 i;
+        extended = p4 .1 i;
+        id = p3 .1 i;
+        len = p2 .1 i;
+        «data» = p1 .1 i;
+      },
+      p0 .1,
+    )
 
--- The last six bits are zero.
-pub spare-zero : (r : Record) → number r % 64 ≡ 0
-spare-zero r = mul-mod-left _ 64
+-- The last five bits are zero.
+pub spare-zero : (r : Record) (m : ℕ) → number r m % 32 ≡ 0
+spare-zero r m = mul-mod-left _ 32
 
 -- 58 bits and the six that follow them are a word.
 pub word-fits : (b d : ℕ) → b < 2 ^ 58 → d < 2 ^ 64 → b * 2 ^ 6 + d / 2 ^ 58 < 2 ^ 64
@@ -82,10 +84,11 @@ module _ (r : Record) (h : Widths r) where
   after-lt : {o m : ℕ} → o < m → after r o < m * 2 ^ 5 * 2 ^ 3 * 2 * 2 ^ 29 * 2 ^ 4
   after-lt p = digits-lt (digits-lt (digits-lt (digits-lt (digits-lt p (h .bus)) (h .kind)) (h .extended)) (h .id)) (h .len)
 
-  pub number-lt : number r < 256 ^ 20
-  number-lt =
-      let z : 0 < 2 ^ 6 = omega arith in
-      rw add-zero at (digits-lt (digits-lt (after-lt (h .offset)) (h .«data»)) z)
+  pub number-lt : {m : ℕ} → m ≤ 1 → number r m < 256 ^ 20
+  number-lt {m} b =
+      let z : 0 < 2 ^ 5 = omega arith in
+      let c : m < 2 = omega arith in
+      rw add-zero at (digits-lt (digits-lt (digits-lt (after-lt (h .offset)) (h .«data»)) c) z)
 
   middle-lt : middleOf r < 256 ^ 8
   middle-lt =
@@ -93,30 +96,34 @@ module _ (r : Record) (h : Widths r) where
       let q : r .«data» / 2 ^ 58 < 2 ^ 6 = omega (arith, h .«data») in
       digits-lt (after-lt p) q
 
-  low-lt : r .«data» % 2 ^ 58 * 2 ^ 6 < 256 ^ 8
-  low-lt = omega arith
+  -- The last word, which ends with the mark and five bits.
+  abbrev low : ℕ → ℕ
+  low m = r .«data» % 2 ^ 58 * 2 ^ 6 + m * 2 ^ 5
 
-  split : (u w : ℕ) → (u * 2 ^ 64 + w) * 2 ^ 6 ≡ (u * 2 ^ 6 + w / 2 ^ 58) * 256 ^ 8 + w % 2 ^ 58 * 2 ^ 6
-  split u w = omega arith
+  low-lt : {m : ℕ} → m ≤ 1 → low m < 256 ^ 8
+  low-lt b = omega arith
+
+  split : (u w m : ℕ) → ((u * 2 ^ 64 + w) * 2 + m) * 2 ^ 5 ≡ (u * 2 ^ 6 + w / 2 ^ 58) * 256 ^ 8 + (w % 2 ^ 58 * 2 ^ 6 + m * 2 ^ 5)
+  split u w m = omega arith
 
   high : (o t : ℕ) → after r o * 2 ^ 6 + t ≡ o / 2 ^ 16 * 256 ^ 8 + (after r (o % 2 ^ 16) * 2 ^ 6 + t)
   high o t = omega arith
 
-  words : bytes 20 (number r)
-      ≡ (bytes 4 (r .offset / 2 ^ 16) ++ bytes 8 (middleOf r)) ++ bytes 8 (r .«data» % 2 ^ 58 * 2 ^ 6)
-  words =
+  words : {mark : ℕ} → mark ≤ 1 → bytes 20 (number r mark)
+      ≡ (bytes 4 (r .offset / 2 ^ 16) ++ bytes 8 (middleOf r)) ++ bytes 8 (low mark)
+  words {mark} b =
       let h = r .offset / 2 ^ 16 in
       let m = middleOf r in
-      let l = r .«data» % 2 ^ 58 * 2 ^ 6 in
-      let n : number r ≡ (h * 256 ^ 8 + m) * 256 ^ 8 + l =
-      split (after r (r .offset)) (r .«data») ∙ ap (λ (x : ℕ). x * 256 ^ 8 + l) (high (r .offset) (r .«data» / 2 ^ 58)) in
-      rw (n, join 4 8 h m middle-lt, join 12 8 (h * 256 ^ 8 + m) l low-lt)
+      let l = low mark in
+      let n : number r mark ≡ (h * 256 ^ 8 + m) * 256 ^ 8 + l =
+      split (after r (r .offset)) (r .«data») mark ∙ ap (λ (x : ℕ). x * 256 ^ 8 + l) (high (r .offset) (r .«data» / 2 ^ 58)) in
+      rw (n, join 4 8 h m middle-lt, join 12 8 (h * 256 ^ 8 + m) l (low-lt b))
 
   -- Storing the three words is storing the twenty bytes.
-  pub stored-words : (l a b c : List ℕ) (i m : ℕ) → m ≡ middleOf r
+  pub stored-words : {mark : ℕ} → mark ≤ 1 → (l a b c : List ℕ) (i m : ℕ) → m ≡ middleOf r
       → a ≡ sets l i (bytes 4 (r .offset / 2 ^ 16)) → b ≡ sets a (i + 4) (bytes 8 m)
-      → c ≡ sets b (i + 12) (bytes 8 (r .«data» % 2 ^ 58 * 2 ^ 6)) → c ≡ sets l i (bytes 20 (number r))
-  stored-words l a b c i m e p q s = rw (s, q, p, e, words) (simp (sets-append, length-append, length-bytes))
+      → c ≡ sets b (i + 12) (bytes 8 (low mark)) → c ≡ sets l i (bytes 20 (number r mark))
+  stored-words t l a b c i m e p q s = rw (s, q, p, e, words t) (simp (sets-append, length-append, length-bytes))
 
 -- The bytes behind a place, as a slice.
 slice-behind : (at n : ℕ) (s : List ℕ) → at ≤ length s → slice at (at + n) s ≡ take n (drop at s)
@@ -143,7 +150,7 @@ three-words s at h m l e p q r = record { are = read-words s at h m l e (q .0) (
 two : (r : Record) (h x : ℕ) → after r (h * 2 ^ 16 + x) ≡ h * 2 ^ 58 + after r x
 two r h x = omega arith
 
-tail : (u v l : ℕ) → l % 64 ≡ 0 → (u * 2 ^ 64 + (v * 2 ^ 58 + l / 64)) * 2 ^ 6 ≡ (u * 2 ^ 6 + v) * 256 ^ 8 + l
+tail : (u v l : ℕ) → l % 32 ≡ 0 → ((u * 2 ^ 64 + (v * 2 ^ 58 + l / 64)) * 2 + l / 32 % 2) * 2 ^ 5 ≡ (u * 2 ^ 6 + v) * 256 ^ 8 + l
 tail u v l h = omega arith
 
 pub data-lt : (m l : ℕ) → l < 2 ^ 64 → m % 64 * 2 ^ 58 + l / 64 < 2 ^ 64
@@ -165,11 +172,11 @@ made h m l =
       «data» = m % 2 ^ 6 * 2 ^ 58 + l / 2 ^ 6;
     }
 
-pub made-number : (h m l : ℕ) → l % 64 ≡ 0 → number (made h m l) ≡ (h * 256 ^ 8 + m) * 256 ^ 8 + l
+pub made-number : (h m l : ℕ) → l % 32 ≡ 0 → number (made h m l) (l / 2 ^ 5 % 2) ≡ (h * 256 ^ 8 + m) * 256 ^ 8 + l
 made-number h m l z =
     let a : after (made h m l) (m / 2 ^ 6 / 2 ^ 4 / 2 ^ 29 / 2 / 2 ^ 3 / 2 ^ 5) ≡ m / 64 = simp div-add-mod' in
     let u : (h * 2 ^ 58 + m / 64) * 2 ^ 6 + m % 64 ≡ h * 256 ^ 8 + m = omega arith in
-    ap (λ (x : ℕ). (x * 2 ^ 64 + (m % 64 * 2 ^ 58 + l / 64)) * 2 ^ 6)
+    ap (λ (x : ℕ). ((x * 2 ^ 64 + (m % 64 * 2 ^ 58 + l / 64)) * 2 + l / 32 % 2) * 2 ^ 5)
     (two (made h m l) h _ ∙ ap (λ (x : ℕ). h * 2 ^ 58 + x) a)
     ∙ tail (h * 2 ^ 58 + m / 64) (m % 64) l z
     ∙ ap (λ (x : ℕ). x * 256 ^ 8 + l) u

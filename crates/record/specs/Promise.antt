@@ -21,25 +21,30 @@ packNumbers packed.Short = 25 ∷ 0 ∷ []
 abbrev pub fieldsOf : Record → List ℕ
 fieldsOf r = r .offset ∷ r .bus ∷ r .kind ∷ r .extended ∷ r .id ∷ r .len ∷ r .«data» ∷ []
 
+-- Number, place, the seven fields and the mark.
+abbrev pub recordNumbers : Record → ℕ → List ℕ
+recordNumbers r mark = 0 ∷ 0 ∷ fieldsOf r ++ (mark ∷ [])
+
 -- A refusal gives number and place, and zeros for all else.
 abbrev pub refusalNumbers : ℕ → ℕ → List ℕ
-refusalNumbers n p = n ∷ p ∷ 0 ∷ 0 ∷ 0 ∷ 0 ∷ 0 ∷ 0 ∷ 0 ∷ []
+refusalNumbers n p = n ∷ p ∷ 0 ∷ 0 ∷ 0 ∷ 0 ∷ 0 ∷ 0 ∷ 0 ∷ 0 ∷ []
 
--- Number, place and the seven fields for each answer of `unpack`.
+-- The ten numbers for each answer of `unpack`.
 abbrev pub unpackNumbers : Unpacked → List ℕ
-unpackNumbers (unpacked.Fields r) = 0 ∷ 0 ∷ fieldsOf r
+unpackNumbers (unpacked.Fields r mark) = recordNumbers r mark
 unpackNumbers unpacked.NotTwenty = refusalNumbers 20 0
 unpackNumbers unpacked.Malformed = refusalNumbers 23 1
 
--- `pack` of r, into an output that held `before` and then holds `after`, gives the numbers a: 23 first, then 25, each with the output
--- untouched; else the record's bytes, and behind them what was there.
-pub data PackPromise (r : Record) (before a after : List ℕ) : Type 0 where
-  done : {s : List ℕ} → Packs r s → 20 ≤ length before → a ≡ 0 ∷ 0 ∷ [] → after ≡ s ++ drop 20 before → PackPromise r before a after
-  malformed : (WellFormed r → ⊥) → a ≡ 23 ∷ 1 ∷ [] → after ≡ before → PackPromise r before a after
-  short : WellFormed r → length before < 20 → a ≡ 25 ∷ 0 ∷ [] → after ≡ before → PackPromise r before a after
+-- `pack` of r and a mark, into an output that held `before` and then holds `after`, gives the numbers a: 23 first, for the record or a mark
+-- above 1, then 25, each with the output untouched; else the record's bytes, and behind them what was there.
+pub data PackPromise (r : Record) (mark : ℕ) (before a after : List ℕ) : Type 0 where
+  done : {s : List ℕ} → Packs r mark s → 20 ≤ length before → a ≡ 0 ∷ 0 ∷ [] → after ≡ s ++ drop 20 before → PackPromise r mark before a after
+  malformed : (WellFormed r → mark ≤ 1 → ⊥) → a ≡ 23 ∷ 1 ∷ [] → after ≡ before → PackPromise r mark before a after
+  short : WellFormed r → mark ≤ 1 → length before < 20 → a ≡ 25 ∷ 0 ∷ [] → after ≡ before → PackPromise r mark before a after
 
--- `unpack` of s gives the numbers a: 20 if s is not twenty bytes, 23 if it is no packed record, else the record's fields.
+-- `unpack` of s gives the numbers a: 20 if s is not twenty bytes, 23 if it is no packed record, with either mark, else the record's fields and
+-- its mark.
 pub data UnpackPromise (s a : List ℕ) : Type 0 where
-  fields : {r : Record} → Packs r s → a ≡ 0 ∷ 0 ∷ fieldsOf r → UnpackPromise s a
+  fields : {r : Record} {mark : ℕ} → Packs r mark s → a ≡ recordNumbers r mark → UnpackPromise s a
   not-twenty : length s ≢ 20 → a ≡ refusalNumbers 20 0 → UnpackPromise s a
-  malformed : length s ≡ 20 → ((r : Record) → Packs r s → ⊥) → a ≡ refusalNumbers 23 1 → UnpackPromise s a
+  malformed : length s ≡ 20 → ((r : Record) (mark : ℕ) → Packs r mark s → ⊥) → a ≡ refusalNumbers 23 1 → UnpackPromise s a

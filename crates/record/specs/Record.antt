@@ -1,4 +1,4 @@
--- What a record is: when its fields are well formed, and the twenty bytes that they are packed as. In words: docs/FORMAT.md, section 8.
+-- What a record is: when its fields are well formed, and the twenty bytes that they and a mark are packed as. In words: docs/FORMAT.md, section 8.
 use Prim.Native.Nat.{ℕ, _+_, _*_, _-_, _/_, _%_, _^_, _≤_, _<_}
 use mathlib.Core.Path.{_≡_}
 use mathlib.Core.Logic.{_⊎_}
@@ -20,6 +20,10 @@ recordOf fields =
       len = getD fields 5 0;
       «data» = getD fields 6 0;
     }
+
+-- The mark, which stands behind these fields.
+abbrev pub markIn : List ℕ → ℕ
+markIn fields = getD fields 7 0
 
 -- Data byte i of eight, the first being 0.
 abbrev pub dataByte : Record → ℕ → ℕ
@@ -70,12 +74,13 @@ pub record WellFormed (r : Record) : Type 0 where
   pub warning : r .kind ≡ 4 → Warning r
   pub error : r .kind ≡ 5 → ErrorFrame r
 
--- The 160 bits as one number: offset 48 bits, bus 5, kind 3, extended 1, ID 29, length 4, data 64, six zero bits.
-abbrev pub number : Record → ℕ
-number r =
-    ((((((r .offset * 2 ^ 5 + r .bus) * 2 ^ 3 + r .kind) * 2 + r .extended) * 2 ^ 29 + r .id) * 2 ^ 4 + r .len) * 2 ^ 64 + r .«data») * 2 ^ 6
+-- The 160 bits as one number: offset 48 bits, bus 5, kind 3, extended 1, ID 29, length 4, data 64, the mark 1, five zero bits.
+abbrev pub number : Record → ℕ → ℕ
+number r mark =
+    (((((((r .offset * 2 ^ 5 + r .bus) * 2 ^ 3 + r .kind) * 2 + r .extended) * 2 ^ 29 + r .id) * 2 ^ 4 + r .len) * 2 ^ 64 + r .«data») * 2 + mark) * 2 ^ 5
 
--- The bytes s are the packed record r.
-pub record Packs (r : Record) (s : List ℕ) : Type 0 where
+-- The bytes s are the packed record r with this mark. A single record may have either.
+pub record Packs (r : Record) (mark : ℕ) (s : List ℕ) : Type 0 where
   pub formed : WellFormed r
-  pub packed : s ≡ bytes 20 (number r)
+  pub bit : mark ≤ 1
+  pub packed : s ≡ bytes 20 (number r mark)

@@ -1,16 +1,17 @@
-// One packed record: its 160 bits as one number in twenty bytes, most significant first.
+// One packed record: its 160 bits as one number in twenty bytes, most significant first. A mark stands beside its fields.
 use base::LAST_BUS;
 use base::OFFSET_LIMIT;
 use base::wide;
 ghost use mathlib.Core.Path.{_≡_};
 ghost use mathlib.Core.Logic.{_⊎_};
 ghost use Prim.Native.Nat.{_+_, _-_, _*_, _/_, _%_, _^_, _≤_, _<_};
-ghost use lib.ListN.{length, take, drop};
+ghost use lib.ListN.{length};
 ghost use lib.Seq.{slice, sets};
 ghost use Rattle.record.specs.inner.PackedAt.{PackedAt};
 ghost use Rattle.base.specs.inner.Decides.{Decides};
+ghost use Rattle.record.specs.declared.Record.{Record as AnyRecord};
 ghost use Rattle.record.specs.Bytes.{bytes};
-ghost use Rattle.record.specs.Record.{recordOf, number, ErrorId, Position, Warning, ErrorFrame, WellFormed, Packs};
+ghost use Rattle.record.specs.Record.{recordOf, number, ErrorId, Position, Warning, ErrorFrame, WellFormed};
 ghost use Rattle.record.specs.Promise.{packNumbers, unpackNumbers, PackPromise, UnpackPromise};
 
 // The fields of a record, each wide enough to hold a wrong value. `data` is the eight data bytes, the first most
@@ -32,9 +33,9 @@ pub enum Packed {
     Short,
 }
 
-// What `unpack` answers: the record, not twenty bytes, no packed record.
+// What `unpack` answers: the record and its mark, not twenty bytes, no packed record.
 pub enum Unpacked {
-    Fields(Record),
+    Fields { r: Record, mark: u64 },
     NotTwenty,
     Malformed,
 }
@@ -230,37 +231,40 @@ fn middle(r: Record) -> u64
     b * 64 + r.data / 0x400_0000_0000_0000
 }
 
-// Puts the twenty bytes of a well-formed record at a position.
-pub fn put_record(out: &mut [u8], at: usize, r: Record)
-    requires { ⌜ (at + 20 ≤ length (now out)) × WellFormed r ⌝ }
-    ensures { λ _. ⌜ now (out .exit) ≡ sets (now (out .entry)) at (bytes 20 (number r)) ⌝ }
+// Puts the twenty bytes of a well-formed record with its mark at a position.
+pub fn put_record(out: &mut [u8], at: usize, r: Record, mark: u64)
+    requires { ⌜ (at + 20 ≤ length (now out)) × WellFormed r × (mark ≤ 1) ⌝ }
+    ensures { λ _. ⌜ now (out .exit) ≡ sets (now (out .entry)) at (bytes 20 (number r mark)) ⌝ }
 {
     let p = at + 4;
     let q = at + 12;
     let m = middle(r);
     put4(out, at, r.offset / 0x1_0000);
     put8(out, p, m);
-    put8(out, q, r.data % 0x400_0000_0000_0000 * 64);
+    put8(out, q, r.data % 0x400_0000_0000_0000 * 64 + mark * 32);
 }
 
-// Packs one record at the start of the output.
-pub fn pack(r: Record, out: &mut [u8]) -> Packed
-    ensures { λ a. ⌜ PackPromise r (now (out .entry)) (packNumbers a) (now (out .exit)) ⌝ }
+// Packs one record with its mark at the start of the output.
+pub fn pack(r: Record, mark: u64, out: &mut [u8]) -> Packed
+    ensures { λ a. ⌜ PackPromise r mark (now (out .entry)) (packNumbers a) (now (out .exit)) ⌝ }
 {
+    if 1 < mark {
+        return Packed::Malformed;
+    }
     if !well_formed(r) {
         return Packed::Malformed;
     }
     if out.len() < 20 {
         return Packed::Short;
     }
-    put_record(out, 0, r);
+    put_record(out, 0, r, mark);
     Packed::Done
 }
 
-// The record whose number has 32 bits h, 64 bits m and 64 bits l.
+// The record whose number, with its mark, has 32 bits h, 64 bits m and 64 bits l.
 fn record_of(h: u64, m: u64, l: u64) -> Record
-    requires { ⌜ (h < 2 ^ 32) × (l % 2 ^ 6 ≡ 0) ⌝ }
-    ensures { λ r. ⌜ number r ≡ (h * 256 ^ 8 + m) * 256 ^ 8 + l ⌝ }
+    requires { ⌜ (h < 2 ^ 32) × (l % 2 ^ 5 ≡ 0) ⌝ }
+    ensures { λ r. ⌜ number r (l / 2 ^ 5 % 2) ≡ (h * 256 ^ 8 + m) * 256 ^ 8 + l ⌝ }
     ensures { λ r. ⌜ (r .offset < 2 ^ 48) × (r .bus < 2 ^ 5) × (r .kind < 2 ^ 3) × (r .extended < 2)
         × (r .id < 2 ^ 29) × (r .len < 2 ^ 4) × (r .«data» < 2 ^ 64) ⌝ }
 {
@@ -280,11 +284,11 @@ fn record_of(h: u64, m: u64, l: u64) -> Record
     }
 }
 
-// The record whose twenty bytes stand at a position, where they are a packed record. Nothing is judged here: the second pass of a writer
-// calls it for bytes that the first pass judged.
+// The record whose twenty bytes stand at a position, where they are a packed record, with either mark. Nothing is judged here: the second pass
+// of a writer calls it for bytes that the first pass judged.
 pub fn packed_at(s: &[u8], at: usize) -> Record
-    requires { ⌜ PackedAt (now s) at ⌝ }
-    ensures { λ r. ⌜ Packs r (take 20 (drop at (now (s .entry)))) ⌝ }
+    requires { ⌜ ((r : AnyRecord) × PackedAt (now s) at r) ⌝ }
+    ensures { λ r. ⌜ PackedAt (now (s .entry)) at r ⌝ }
 {
     let h = get4(s, at);
     let m = get8(s, at + 4);
@@ -292,7 +296,7 @@ pub fn packed_at(s: &[u8], at: usize) -> Record
     record_of(h, m, l)
 }
 
-// The record that twenty bytes are.
+// The record that twenty bytes are, and its mark.
 pub fn unpack(s: &[u8]) -> Unpacked
     ensures { λ a. ⌜ UnpackPromise (now (s .entry)) (unpackNumbers a) ⌝ }
 {
@@ -302,12 +306,15 @@ pub fn unpack(s: &[u8]) -> Unpacked
     let h = get4(s, 0);
     let m = get8(s, 4);
     let l = get8(s, 12);
-    if l % 64 != 0 {
+    if l % 32 != 0 {
         return Unpacked::Malformed;
     }
     let r = record_of(h, m, l);
     if !well_formed(r) {
         return Unpacked::Malformed;
     }
-    Unpacked::Fields(r)
+    Unpacked::Fields {
+        r,
+        mark: l / 32 % 2,
+    }
 }

@@ -8,23 +8,8 @@ use lib.Dec.{ltb}
 use borrow.Author.Tests.{lt-ltb, le-ltb}
 use lib.ListN.{length}
 use Rattle.record.specs.declared.Record.{Record}
+use Rattle.records.specs.Records.{lastAfter, lastOffset}
 use Rattle.records.specs.StepBack.{backFrom, stepBack}
-
--- The offset of the last record, or this.
-abbrev pub lastFrom : ℕ → List Record → ℕ
-lastFrom last [] = last
-lastFrom last (r ∷ rs) = lastFrom (r .offset) rs
-
--- The offset of the last record; 0 where there is none.
-abbrev pub lastOffset : List Record → ℕ
-lastOffset rs = lastFrom 0 rs
-
-last-from : (last : ℕ) (rs : List Record) (r : Record) → lastFrom last (rs ++ (r ∷ [])) ≡ r .offset
-last-from last [] r = refl
-last-from last (q ∷ rs) r = last-from (q .offset) rs r
-
-pub last-more : (rs : List Record) (r : Record) → lastOffset (rs ++ (r ∷ [])) ≡ r .offset
-last-more rs r = last-from 0 rs r
 
 -- One record looked at: the place is it, or what is found behind it.
 abbrev pick : Bool → ℕ → ℕ → ℕ
@@ -48,7 +33,7 @@ from-keep at before (r ∷ rs) qs h =
 
 -- Where none was found, the records behind are looked at.
 from-on : (at before : ℕ) (rs qs : List Record) → 0 < at → backFrom at before rs ≡ 0
-    → backFrom at before (rs ++ qs) ≡ backFrom (at + length rs) (lastFrom before rs) qs
+    → backFrom at before (rs ++ qs) ≡ backFrom (at + length rs) (lastAfter before rs) qs
 unfolding backFrom
 from-on at before [] qs p h =
     let e : at + 0 ≡ at = omega arith in
@@ -57,7 +42,7 @@ from-on at before (r ∷ rs) qs p h =
     let e : at + suc (length rs) ≡ at + 1 + length rs = omega arith in
     rw e
     (on (ltb (r .offset) before) at (backFrom (at + 1) (r .offset) (rs ++ qs)) (backFrom (at + 1) (r .offset) rs)
-    (backFrom (at + 1 + length rs) (lastFrom (r .offset) rs) qs) p h (from-on (at + 1) (r .offset) rs qs (omega arith)))
+    (backFrom (at + 1 + length rs) (lastAfter (r .offset) rs) qs) p h (from-on (at + 1) (r .offset) rs qs (omega arith)))
 
 -- One record more: a step back that was found stays,
 pub back-keep : (rs : List Record) (r : Record) → 0 < stepBack rs → stepBack (rs ++ (r ∷ [])) ≡ stepBack rs
@@ -70,11 +55,11 @@ pub back-found : (rs : List Record) (r : Record) → stepBack rs ≡ 0 → r .of
 unfolding stepBack backFrom
 back-found [] r h l = absurd (omega arith)
 back-found (q ∷ rs) r h l =
-    from-on 2 (q .offset) rs (r ∷ []) (omega arith) h ∙ rw (lt-ltb (r .offset) (lastFrom (q .offset) rs) l, backFrom) (omega arith)
+    from-on 2 (q .offset) rs (r ∷ []) (omega arith) h ∙ rw (lt-ltb (r .offset) (lastAfter (q .offset) rs) l, backFrom) (omega arith)
 
 -- and else none is found.
 pub back-none : (rs : List Record) (r : Record) → stepBack rs ≡ 0 → lastOffset rs ≤ r .offset → stepBack (rs ++ (r ∷ [])) ≡ 0
 unfolding stepBack backFrom
 back-none [] r h l = refl
 back-none (q ∷ rs) r h l =
-    from-on 2 (q .offset) rs (r ∷ []) (omega arith) h ∙ rw (le-ltb (r .offset) (lastFrom (q .offset) rs) l, backFrom)
+    from-on 2 (q .offset) rs (r ∷ []) (omega arith) h ∙ rw (le-ltb (r .offset) (lastAfter (q .offset) rs) l, backFrom)

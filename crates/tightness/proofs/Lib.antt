@@ -8,6 +8,7 @@ pub mod LongOffsets
 pub mod OldLimit
 pub mod Whole
 pub mod Lost
+pub mod Marks
 pub mod Numbers
 pub mod Readers
 pub mod ReadingAscii

@@ -20,7 +20,7 @@ use Rattle.clock.proofs.Dates.{one-date, made}
 use Rattle.record.specs.declared.Record.{Record}
 use Rattle.record.specs.Bytes.{bytes}
 use Rattle.record.specs.Record.{WellFormed, number, Packs}
-use Rattle.record.specs.Promise.{PackPromise, done, short, UnpackPromise, fields, not-twenty, fieldsOf}
+use Rattle.record.specs.Promise.{PackPromise, done, short, UnpackPromise, fields, not-twenty, recordNumbers}
 use Rattle.record.specs.Promise
 use Rattle.record.proofs.OneRecord.{packs, packed-length, one-record}
 use Rattle.record.proofs.Promises.{unpacked-fields}
@@ -59,34 +59,34 @@ every-offset o h w = record {
 
 -- record: 23 for an offset of 48 bits
 module _ {r : Record} (w : WellFormed r) {o : ℕ} (h : o < 2 ^ 48) where
-  pub old-limit-in-pack : {before after ns : List ℕ} → PackPromise (withOffset o r) before (23 ∷ ns) after → ⊥
-  old-limit-in-pack (done p n e z) = let x : _≡_ {A = ℕ} 23 0 = cc in omega arith
-  old-limit-in-pack (Promise.malformed f e z) = f (every-offset o h w)
-  old-limit-in-pack (short f n e z) = let x : _≡_ {A = ℕ} 23 25 = cc in omega arith
+  pub old-limit-in-pack : {mark : ℕ} {before after ns : List ℕ} → mark ≤ 1 → PackPromise (withOffset o r) mark before (23 ∷ ns) after → ⊥
+  old-limit-in-pack b (done p n e z) = let x : _≡_ {A = ℕ} 23 0 = cc in omega arith
+  old-limit-in-pack b (Promise.malformed f e z) = f (every-offset o h w) b
+  old-limit-in-pack b (short f m n e z) = let x : _≡_ {A = ℕ} 23 25 = cc in omega arith
 
-  pub old-limit-in-unpack : {ns : List ℕ} → UnpackPromise (bytes 20 (number (withOffset o r))) (23 ∷ ns) → ⊥
-  old-limit-in-unpack (fields p e) = let x : _≡_ {A = ℕ} 23 0 = cc in omega arith
-  old-limit-in-unpack (not-twenty n e) = let x : _≡_ {A = ℕ} 23 20 = cc in omega arith
-  old-limit-in-unpack (Promise.malformed n f e) = f (withOffset o r) (packs (every-offset o h w))
+  pub old-limit-in-unpack : {mark : ℕ} {ns : List ℕ} → mark ≤ 1 → UnpackPromise (bytes 20 (number (withOffset o r) mark)) (23 ∷ ns) → ⊥
+  old-limit-in-unpack b (fields p e) = let x : _≡_ {A = ℕ} 23 0 = cc in omega arith
+  old-limit-in-unpack b (not-twenty n e) = let x : _≡_ {A = ℕ} 23 20 = cc in omega arith
+  old-limit-in-unpack {mark} b (Promise.malformed n f e) = f (withOffset o r) mark (packs (every-offset o h w) b)
 
 -- an offset of 49 bits or more, packed
-pub packs-49-bits : {r : Record} {before after ns : List ℕ} → 2 ^ 48 ≤ r .offset → PackPromise r before (0 ∷ ns) after → ⊥
+pub packs-49-bits : {r : Record} {mark : ℕ} {before after ns : List ℕ} → 2 ^ 48 ≤ r .offset → PackPromise r mark before (0 ∷ ns) after → ⊥
 packs-49-bits h (done p n e z) = omega (arith, p .formed .offset)
 packs-49-bits h (Promise.malformed f e z) = let x : _≡_ {A = ℕ} 0 23 = cc in omega arith
-packs-49-bits h (short f n e z) = let x : _≡_ {A = ℕ} 0 25 = cc in omega arith
+packs-49-bits h (short f b n e z) = let x : _≡_ {A = ℕ} 0 25 = cc in omega arith
 
 -- the offset cut to 47 bits, packed and unpacked
 module _ {r q : Record} (h : 2 ^ 47 ≤ r .offset) (c : q .offset ≡ r .offset % 2 ^ 47) where
   differ : r ≡ q → ⊥
   differ e = omega (arith, ap (λ (t : Record). t .offset) e)
 
-  pub cut-in-pack : {before after ns : List ℕ} → PackPromise r before (0 ∷ ns) after → Packs q (take 20 after) → ⊥
+  pub cut-in-pack : {mark m : ℕ} {before after ns : List ℕ} → PackPromise r mark before (0 ∷ ns) after → Packs q m (take 20 after) → ⊥
   cut-in-pack {before = before} (done {s = s} p n e z) x =
       differ (one-record p (rw (z, take-at s (drop 20 before) 20 (packed-length p)) at x))
   cut-in-pack (Promise.malformed f e z) x = let y : _≡_ {A = ℕ} 0 23 = cc in omega arith
-  cut-in-pack (short f n e z) x = let y : _≡_ {A = ℕ} 0 25 = cc in omega arith
+  cut-in-pack (short f b n e z) x = let y : _≡_ {A = ℕ} 0 25 = cc in omega arith
 
-  pub cut-in-unpack : {s : List ℕ} → Packs r s → UnpackPromise s (0 ∷ 0 ∷ fieldsOf q) → ⊥
+  pub cut-in-unpack : {mark m : ℕ} {s : List ℕ} → Packs r mark s → UnpackPromise s (recordNumbers q m) → ⊥
   cut-in-unpack p u = differ (one-record p (unpacked-fields q u))
 
 pub cut-in-a-row : {v k at e : ℕ} {r : Record} {line out : List ℕ} → Row.Row v k r line → 2 ^ 47 ≤ r .offset → e ≢ 0 → getD out 0 0 ≡ r .offset % 2 ^ 47

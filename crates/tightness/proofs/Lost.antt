@@ -73,10 +73,10 @@ pub export-record-lost : {start channel bytes lines left : ℕ} {s before after 
 export-record-lost e = omega (arith, answered-23 e .at)
 
 -- pack: 25 is given with place 0
-pub short-at-a-place : {r : Record} {place : ℕ} {before after : List ℕ} → single.PackPromise r before (25 ∷ suc place ∷ []) after → ⊥
+pub short-at-a-place : {r : Record} {mark place : ℕ} {before after : List ℕ} → single.PackPromise r mark before (25 ∷ suc place ∷ []) after → ⊥
 short-at-a-place (single.done p n e u) = let z : _≡_ {A = ℕ} 25 0 = cc in omega arith
 short-at-a-place (single.malformed f e u) = let z : _≡_ {A = ℕ} 25 23 = cc in omega arith
-short-at-a-place {place = place} (single.short f n e u) = let z : suc place ≡ 0 = cc in omega arith
+short-at-a-place {place = place} (single.short f b n e u) = let z : suc place ≡ 0 = cc in omega arith
 
 -- unpack: 23 is given with record 1
 pub single-lost : {s : List ℕ} → single.UnpackPromise s (single.refusalNumbers 23 0) → ⊥

@@ -5,6 +5,7 @@ use Rattle.tightness.proofs.Same
 use Rattle.tightness.proofs.Readers
 use Rattle.tightness.proofs.Writers
 use Rattle.tightness.proofs.Exporters
+use Rattle.tightness.proofs.Marks
 use Rattle.tightness.proofs.Refusals
 
 pub tight : Tight
@@ -33,5 +34,10 @@ tight = record {
   numbers-from-one = λ k. Writers.numbers-from-one k;
   gives-one = λ k. Exporters.gives-one k;
   gives-all = λ k. Exporters.gives-all k;
+  marks-first = λ k. Readers.marks-first k;
+  marks-equal = λ k. Readers.marks-equal k;
+  marks-by-first = λ k. Readers.marks-by-first k;
+  writes-falsely = λ k. Marks.writes-falsely k;
+  exports-falsely = λ k. Marks.exports-falsely k;
   real = λ w. real w;
 }

@@ -16,9 +16,9 @@ use Rattle.clock.specs.declared.DateTime.{DateTime}
 use Rattle.clock.specs.Start.{startLimit}
 use Rattle.clock.specs.Stamp.{Stamp}
 use Rattle.record.specs.declared.Record.{Record}
-use Rattle.record.specs.Record.{recordOf, number, ErrorId, one, two, four, eight}
-use Rattle.record.specs.Promise.{UnpackPromise, fields, not-twenty, malformed, fieldsOf}
-use Rattle.record.proofs.Bytes.{length-bytes}
+use Rattle.record.specs.Record.{recordOf, ErrorId, one, two, four, eight}
+use Rattle.record.specs.Promise.{UnpackPromise, fields, not-twenty, malformed, recordNumbers}
+use Rattle.record.proofs.OneRecord.{packed-length}
 use Rattle.fields.specs.declared.Scan.{Scan}
 use Rattle.fields.specs.Runs.{All, empty, more as and, Stops, halt}
 use Rattle.fields.specs.Columns.{NumberField, OffsetField, BusField, LengthField, remoteText, typeTx, Capital}
@@ -84,9 +84,9 @@ error-id-3 (four e) = omega arith
 error-id-3 (eight e) = omega arith
 
 -- 19 and 21 bytes are no record, whatever its fields
-pub not-twenty-taken : {s : List ℕ} {r : Record} → (length s ≡ 19) ⊎ (length s ≡ 21) → UnpackPromise s (0 ∷ 0 ∷ fieldsOf r) → ⊥
-not-twenty-taken (inl h) (fields {r = q} p e) = omega (arith, ap length (p .packed), length-bytes 20 (number q))
-not-twenty-taken (inr h) (fields {r = q} p e) = omega (arith, ap length (p .packed), length-bytes 20 (number q))
+pub not-twenty-taken : {s : List ℕ} {r : Record} {mark : ℕ} → (length s ≡ 19) ⊎ (length s ≡ 21) → UnpackPromise s (recordNumbers r mark) → ⊥
+not-twenty-taken (inl h) (fields p e) = omega (arith, packed-length p)
+not-twenty-taken (inr h) (fields p e) = omega (arith, packed-length p)
 not-twenty-taken h (not-twenty n e) = omega (arith, differ e)
 not-twenty-taken (inl h) (malformed n f e) = omega arith
 not-twenty-taken (inr h) (malformed n f e) = omega arith

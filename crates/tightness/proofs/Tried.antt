@@ -11,18 +11,18 @@ use Rattle.clock.specs.Start.{startLimit}
 use Rattle.fields.specs.Runs.{empty as nothing, more as byte}
 use Rattle.fields.proofs.Runs.{all-append, all-of}
 use Rattle.record.specs.declared.Record.{Record}
-use Rattle.record.specs.Bytes.{bytes}
 use Rattle.record.specs.Record.{WellFormed, number}
 use Rattle.record.proofs.Bytes.{byte-below}
 use Rattle.record.proofs.Frames.{frame-formed}
-use Rattle.records.specs.Records.{packed, none, more}
+use Rattle.records.specs.Records.{markAfter, packedAfter, packed, none, more}
+use Rattle.records.proofs.Packing.{marked}
 use Rattle.row.specs.House.{numberText, offsetText, busTexts, typeText, idText, dataTexts, rowTexts}
 use Rattle.row.specs.Versions.{Version, is11, is12, Carries, v11, v12}
 use Rattle.trace.specs.Trace.{Trace, no-rows, some-rows, AreBytes, traceOf}
 use Rattle.trace.specs.House.{versionLineText, fractionOfDay, startLineText, rowsText, traceText, Writable}
 use Rattle.trace.proofs.Beginnings.{tested, are-bytes}
 use Rattle.tightness.specs.Programs.{Lent}
-use Rattle.tightness.specs.Tight.{receivedOn, received12, Tried, empty, later, older, two, copied, middle, one, no-bus}
+use Rattle.tightness.specs.Tight.{receivedOn, received12, Tried, empty, later, older, two, copied, middle, one, no-bus, stepping}
 
 -- They can be written.
 
@@ -57,6 +57,15 @@ one-writable {bus = bus} v b c = record {
   carried = more c none;
 }
 
+stepping-writable : Writable (traceOf 12 0 1 (received12 100 1 ∷ received12 300 1 ∷ received12 200 1 ∷ []))
+stepping-writable = record {
+  version = is12;
+  start = omega arith;
+  numbered = some-rows (omega arith) (omega arith) (omega arith);
+  formed = more (received-formed 100 1 (omega arith) (omega arith)) (more (received-formed 300 1 (omega arith) (omega arith)) (more (received-formed 200 1 (omega arith) (omega arith)) none));
+  carried = more (received-carried 100 1) (more (received-carried 300 1) (more (received-carried 200 1) none));
+}
+
 pub writable : {t : Trace} → Tried t → Writable t
 writable empty = none-writable is12 (omega arith)
 writable later = none-writable is12 (omega arith)
@@ -66,6 +75,7 @@ writable copied = two-writable 1 1 (omega arith) (omega arith) (omega arith)
 writable middle = two-writable 4117 2 (omega arith) (omega arith) (omega arith)
 writable one = one-writable is12 (omega arith) (received-carried 0 1)
 writable no-bus = one-writable is11 (omega arith) (v11 refl refl)
+writable stepping = stepping-writable
 
 -- Bytes: so many zeros, packed records, and, computed, the house spelling of each trace.
 
@@ -76,13 +86,14 @@ zeros-small (suc n) = byte {b = 0} (omega arith) (zeros-small n)
 abbrev pub zeros : ℕ → Lent
 zeros n = record { list = replicate n 0; small = zeros-small n }
 
-pub packed-small : (rs : List Record) → AreBytes (packed rs)
-unfolding packed
-packed-small [] = nothing
-packed-small (r ∷ rs) = all-append (all-of (bytes 20 (number r)) (λ k l. byte-below 20 (number r) k)) (packed-small rs)
+pub packed-small : (before : ℕ) (rs : List Record) → AreBytes (packedAfter before rs)
+unfolding packedAfter
+packed-small before [] = nothing
+packed-small before (r ∷ rs) =
+    all-append (all-of (marked before r) (λ k l. byte-below 20 (number r (markAfter before (r .offset))) k)) (packed-small (r .offset) rs)
 
 abbrev pub recordsOf : Trace → Lent
-recordsOf t = record { list = packed (t .records); small = packed-small (t .records) }
+recordsOf t = record { list = packed (t .records); small = packed-small 0 (t .records) }
 
 text-tested : {t : Trace} → Tried t → tested (traceText t)
 unfolding traceText versionLineText startLineText fractionOfDay rowsText spaced joined numberText offsetText busTexts typeText idText byteTexts dataTexts rowTexts decimalText spell fixed glyphOf
@@ -94,6 +105,7 @@ text-tested copied = tt
 text-tested middle = tt
 text-tested one = tt
 text-tested no-bus = tt
+text-tested stepping = tt
 
 pub text-small : {t : Trace} → Tried t → AreBytes (traceText t)
 text-small {t} w = are-bytes (traceText t) (text-tested w)

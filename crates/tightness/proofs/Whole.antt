@@ -87,7 +87,7 @@ unfolding decimalText spell fixed
 start-eleven-digits s = omega (arith, parts-of 1 11 0 (omega arith) s .2, s .gives .short)
 
 -- a record with bus 17, packed
-pub packs-bus-17 : {r : Record} {before after : List ℕ} → r .bus ≡ 17 → PackPromise r before (0 ∷ 0 ∷ []) after → ⊥
+pub packs-bus-17 : {r : Record} {mark : ℕ} {before after : List ℕ} → r .bus ≡ 17 → PackPromise r mark before (0 ∷ 0 ∷ []) after → ⊥
 packs-bus-17 e (done p n z s) = omega (arith, p .formed .bus)
 packs-bus-17 e (malformed f z s) = let x : _≡_ {A = ℕ} 0 23 = cc in omega arith
-packs-bus-17 e (short f n z s) = let x : _≡_ {A = ℕ} 0 25 = cc in omega arith
+packs-bus-17 e (short f b n z s) = let x : _≡_ {A = ℕ} 0 25 = cc in omega arith

@@ -33,7 +33,7 @@ semicolon : (t : Trace) (rest : List ℕ) → getD (traceText t ++ rest) 0 0 ≡
 semicolon t rest = rw (trace-text, version-line)
 
 -- Number 0 says that the text is done.
-done : {version start first n p m : ℕ} {s before x : List ℕ} → WritePromise version start first s before (n ∷ p ∷ m ∷ []) x → n ≡ 0
+pub done : {version start first n p m : ℕ} {s before x : List ℕ} → WritePromise version start first s before (n ∷ p ∷ m ∷ []) x → n ≡ 0
     → WritePromise version start first s before (writeNumbers (answer.Done m)) x
 done (WritePromise.refused {n = i} f e q) z = let d : 0 ≡ i = cc in absurd (omega (arith, stopped-numbers f .0))
 done (WritePromise.no-room w i l e q) z = let d : _≡_ {A = ℕ} 0 25 = cc in absurd (omega arith)

@@ -12,7 +12,7 @@ use Rattle.trace.specs.Promise.{ReadPromise}
 use Rattle.trace_writer.specs.Promise.{WritePromise}
 use Rattle.ascii.specs.Promise.{ExportPromise}
 use Rattle.tightness.specs.Programs.{Lent, FromReader, Reader, seven, KeepsRead, handedOut, FromWriter, Writer, three, KeepsWrite, writtenText, FromExporter, Exporter, five, KeepsExport}
-use Rattle.tightness.specs.Wrong.{RefusesAll, RefusesWritten, SameVersion, SameStart, SameFirst, SameRecords, SameAlways, DoesNothing, CopiesFirst, WritesFirst, InventsRows, InventsLeftOut, Touched, SaysOne, NumbersFromOne, GivesOne, GivesAll}
+use Rattle.tightness.specs.Wrong.{RefusesAll, RefusesWritten, SameVersion, SameStart, SameFirst, SameRecords, SameAlways, DoesNothing, CopiesFirst, WritesFirst, InventsRows, InventsLeftOut, Touched, SaysOne, NumbersFromOne, GivesOne, GivesAll, MarksFirst, MarksEqual, MarksByFirst, WritesFalsely, ExportsFalsely}
 
 -- The text is accepted, and this trace handed out.
 pub record HandsOut (t : Trace) (a : FromReader) : Type 0 where
@@ -24,7 +24,8 @@ pub record HandsOut (t : Trace) (a : FromReader) : Type 0 where
   pub records : handedOut a ≡ packed (t .records)
 
 -- The traces that the wrong programs are tried with: without rows, in two versions and with two starts; with two rows, of IDs 1 and 2; with the first of
--- these copied; with the same two from number 4,117 on; with the first of them alone; and with the same without its bus.
+-- these copied; with the same two from number 4,117 on; with the first of them alone; with the same without its bus; and with three rows, of which
+-- the last steps back, but not behind the first.
 abbrev pub receivedOn : ℕ → ℕ → ℕ → Record
 receivedOn bus offset id = record { offset = offset; bus = bus; kind = 0; extended = 0; id = id; len = 0; «data» = 0 }
 
@@ -40,6 +41,7 @@ pub data Tried : Trace → Type 0 where
   middle : Tried (traceOf 12 0 4117 (received12 0 1 ∷ received12 0 2 ∷ []))
   one : Tried (traceOf 12 0 1 (received12 0 1 ∷ []))
   no-bus : Tried (traceOf 11 0 1 (receivedOn 0 0 1 ∷ []))
+  stepping : Tried (traceOf 12 0 1 (received12 100 1 ∷ received12 300 1 ∷ received12 200 1 ∷ []))
 
 -- A trace is real: some bytes spell it, some are its records, and with room an answer with number 0 keeps each promise.
 pub record Real (t : Trace) : Type 0 where
@@ -97,5 +99,11 @@ pub record Tight : Type 0 where
   -- 8
   pub gives-one : {e : Exporter} → KeepsExport e → GivesOne e → ⊥
   pub gives-all : {e : Exporter} → KeepsExport e → GivesAll e → ⊥
+  -- 9
+  pub marks-first : {f : Reader} → KeepsRead f → MarksFirst f → ⊥
+  pub marks-equal : {f : Reader} → KeepsRead f → MarksEqual f → ⊥
+  pub marks-by-first : {f : Reader} → KeepsRead f → MarksByFirst f → ⊥
+  pub writes-falsely : {g : Writer} → KeepsWrite g → WritesFalsely g → ⊥
+  pub exports-falsely : {e : Exporter} → KeepsExport e → ExportsFalsely e → ⊥
   -- and what they were tried with
   pub real : {t : Trace} → Tried t → Real t

@@ -2,12 +2,15 @@
 use Prim.Native.Nat.{ℕ, suc, _≤_, _<_}
 use mathlib.Core.Path.{_≡_}
 use mathlib.Core.Logic.{_≢_, _⊎_}
-use mathlib.Core.List.{List, [], _∷_}
+use mathlib.Core.Bool.{cond}
+use mathlib.Core.List.{List, [], _∷_, _++_}
+use lib.Dec.{ltb}
 use lib.ListN.{length, getD, drop, replicate}
 use Rattle.clock.specs.declared.DateTime.{DateTime}
 use Rattle.clock.specs.Stamp.{Stamp}
 use Rattle.record.specs.declared.Record.{Record}
-use Rattle.records.specs.Records.{packed, PacksAll}
+use Rattle.record.specs.Record.{WellFormed, Packs}
+use Rattle.records.specs.Records.{markAfter, lastOffset, packed, Each, PacksAll}
 use Rattle.trace.specs.Trace.{Trace, Spells}
 use Rattle.ascii_line.specs.Line.{lineText}
 use Rattle.tightness.specs.Programs.{Lent, FromReader, Reader, handedOut, handedOutAt, Writer, writtenText, Exporter, exportedText}
@@ -115,3 +118,51 @@ abbrev pub GivesAll : Exporter → Type 0
 GivesAll e =
     (start channel : ℕ) (r : Record) (s : DateTime) (records out : Lent) → records .list ≡ packed (r ∷ []) → r .kind ≤ 1 → Stamp start (r .offset) s
     → e start channel records out .number ≡ 0 → exportedText (e start channel records out) ≡ lineText s channel r
+
+-- 9. Of Order 7: a reader that sets the mark of the first record;
+abbrev pub MarksFirst : Reader → Type 0
+MarksFirst f = (text out : Lent) (r : Record) (mark : ℕ) → f text out .number ≡ 0 → Packs r mark (handedOutAt (f text out) 0) → mark ≡ 1
+
+-- one whose other marks follow a rule, over the offsets of the first record, of the one before and of the record itself:
+abbrev pub MarksBy : (ℕ → ℕ → ℕ → ℕ) → Reader → Type 0
+MarksBy rule f =
+    (text out : Lent) (j : ℕ) (first before this : Record) (a b mark : ℕ) → f text out .number ≡ 0 → Packs first a (handedOutAt (f text out) 0)
+    → Packs before b (handedOutAt (f text out) j) → Packs this mark (handedOutAt (f text out) (suc j))
+    → mark ≡ rule (first .offset) (before .offset) (this .offset)
+
+-- 1 for an equal offset too,
+abbrev pub MarksEqual : Reader → Type 0
+MarksEqual = MarksBy (λ first before offset. cond (ltb before offset) 0 1)
+
+-- or compared with the first record in place of the one before.
+abbrev pub MarksByFirst : Reader → Type 0
+MarksByFirst = MarksBy (λ first before offset. markAfter first offset)
+
+-- And a writer, or an exporter, that takes some list with a false mark: behind some records stands one with another mark than it has there.
+pub record FalselyMarked (s : List ℕ) : Type 0 where
+  pub before : List Record
+  pub this : Record
+  pub mark : ℕ
+  pub these : List ℕ
+  pub after : List ℕ
+  pub whole : s ≡ packed before ++ (these ++ after)
+  pub formed : Each WellFormed before
+  pub packs : Packs this mark these
+  pub not-true : mark ≢ markAfter (lastOffset before) (this .offset)
+
+pub record WritesFalsely (g : Writer) : Type 0 where
+  pub version : ℕ
+  pub start : ℕ
+  pub first : ℕ
+  pub given : Lent
+  pub out : Lent
+  pub marked : FalselyMarked (given .list)
+  pub accepted : g version start first given out .number ≡ 0
+
+pub record ExportsFalsely (e : Exporter) : Type 0 where
+  pub start : ℕ
+  pub channel : ℕ
+  pub given : Lent
+  pub out : Lent
+  pub marked : FalselyMarked (given .list)
+  pub accepted : e start channel given out .number ≡ 0

@@ -11,11 +11,10 @@ use Rattle.base.proofs.Numbers.{below-or-not}
 use Rattle.record.specs.declared.Record.{Record}
 use Rattle.record.specs.Bytes.{bytes}
 use Rattle.record.specs.Record.{number, WellFormed}
-use Rattle.record.proofs.Bytes.{length-bytes}
-use Rattle.records.specs.Records.{packed}
+use Rattle.records.specs.Records.{markAfter, lastOffset, packedAfter, packed}
 use Rattle.records.specs.StepBack.{stepBack}
-use Rattle.records.proofs.Packing.{packed-more, packed-length}
-use Rattle.records.proofs.StepBack.{lastOffset, last-more, back-keep, back-found, back-none}
+use Rattle.records.proofs.Packing.{mark-below, mark-none, mark-bit, last-more, marked, marked-length, packed-more, packed-length}
+use Rattle.records.proofs.StepBack.{back-keep, back-found, back-none}
 use Rattle.fields.specs.Columns.{lastNumber}
 use Rattle.row.specs.Row.{Row}
 use Rattle.row.proofs.Formed.{row-formed}
@@ -33,18 +32,18 @@ use Rattle.trace.proofs.Numbers.{next-number}
 use Rattle.trace.proofs.One.{one-trace}
 
 -- The first step back with one record more.
-stepped-more : (rs : List Record) {last back b n : ℕ} (r : Record) → n ≡ length rs → last ≡ lastOffset rs → back ≡ stepBack rs
-    → BackAfter back (n + 1) last (r .offset) b → b ≡ stepBack (rs ++ (r ∷ []))
-stepped-more rs {last} {back} {b} r c l s f = step (below-or-not 0 back)
+stepped-more : (rs : List Record) {last back mark b n : ℕ} (r : Record) → n ≡ length rs → last ≡ lastOffset rs → back ≡ stepBack rs
+    → mark ≡ markAfter last (r .offset) → BackAfter back (n + 1) mark b → b ≡ stepBack (rs ++ (r ∷ []))
+stepped-more rs {last} {back} {mark} {b} r c l s k f = step (below-or-not 0 back)
   where
     step : (0 < back) ⊎ (back ≤ 0) → b ≡ stepBack (rs ++ (r ∷ []))
-    step (inl h) = f .kept h ∙ s ∙ sym (back-keep rs r (rw s at h))
+    step (inl h) = f .kept (omega arith) ∙ s ∙ sym (back-keep rs r (rw s at h))
     step (inr h) =
         let z : back ≡ 0 = omega arith in
         let e : stepBack rs ≡ 0 = sym s ∙ z in
         ⊎-elim
-        (λ m. f .found z m ∙ ap (λ (x : ℕ). x + 1) c ∙ sym (back-found rs r e (rw l at m)))
-        (λ m. f .none z m ∙ sym (back-none rs r e (rw l at m)))
+        (λ m. f .found z (λ y. omega (arith, k, mark-below m)) ∙ ap (λ (x : ℕ). x + 1) c ∙ sym (back-found rs r e (rw l at m)))
+        (λ m. f .none z (k ∙ mark-none m) ∙ sym (back-none rs r e (rw l at m)))
         (below-or-not (r .offset) last)
 
 pub record Filling (first : ℕ) (text old out : List ℕ) (version at o rows last back : ℕ) : Type 0 where
@@ -63,7 +62,7 @@ pub record Filling (first : ℕ) (text old out : List ℕ) (version at o rows la
   pub stepped : back ≡ stepBack before
 
 pub filling : {first : ℕ} {text old : List ℕ} {version at : ℕ} → RecordsFit text old at version first → Filling first text old old version at 0 0 0 0
-unfolding packed stepBack
+unfolding packedAfter stepBack
 filling {text = text} {at = at} f =
     let h = f .headed in
     let c = spells-cut (drop at text) (omega arith) (h .lines) (rw (← take-append-drop at text) at (f .spelled)) in
@@ -152,17 +151,17 @@ module _ {first : ℕ} {text old out : List ℕ} {version at o rows last back : 
     stepped = f .stepped;
   }
 
-  pub row-room : {next k : ℕ} (r : Record) (line : List ℕ) → k ≡ first + rows → There text at next line → Row version k r line
-      → (o + 20 ≤ length out) × WellFormed r
-  row-room r line q t w =
+  pub row-room : {next k mark : ℕ} (r : Record) (line : List ℕ) → k ≡ first + rows → There text at next line → Row version k r line
+      → mark ≡ markAfter last (r .offset) → (o + 20 ≤ length out) × WellFormed r × (mark ≤ 1)
+  row-room r line q t w e =
       let x = head-row (f .rest) (t .is .first) (rw q at w) in
       let m = f .room in
-      (omega (arith, out-length, ap length (x .1)), row-formed w)
+      (omega (arith, out-length, ap length (x .1)), row-formed w, rw e (mark-bit last (r .offset)))
 
-  pub stored-row : {next k b : ℕ} (r : Record) (line new : List ℕ) → k ≡ first + rows → There text at next line → Row version k r line
-      → new ≡ sets out o (bytes 20 (number r)) → BackAfter back (rows + 1) last (r .offset) b
+  pub stored-row : {next k mark b : ℕ} (r : Record) (line new : List ℕ) → k ≡ first + rows → There text at next line → Row version k r line
+      → mark ≡ markAfter last (r .offset) → new ≡ sets out o (bytes 20 (number r mark)) → BackAfter back (rows + 1) mark b
       → Filling first text old new version next (o + 20) (rows + 1) (r .offset) b
-  stored-row r line new q t w e y =
+  stored-row r line new q t w v e y =
       let x = head-row (f .rest) (t .is .first) (rw q at w) in
       let i : first + rows + 1 ≡ first + (rows + 1) = omega arith in
       let m = f .room in
@@ -181,10 +180,12 @@ module _ {first : ℕ} {text old out : List ℕ} {version at o rows last back : 
         place = let p = f .place in omega arith;
         stored =
             let p : length (packed (f .before)) ≡ o = packed-length (f .before) ∙ sym (f .place) in
-            e ∙ behind (packed (f .before)) (bytes 20 (number r)) old out o 20 p (length-bytes 20 (number r)) (omega (arith, ap length (x .1))) (f .stored)
+            let u = lastOffset (f .before) in
+            rw (v, f .latest) at e
+            ∙ behind (packed (f .before)) (marked u r) old out o 20 p (marked-length u r) (omega (arith, ap length (x .1))) (f .stored)
             ∙ ap (λ (y : List ℕ). y ++ drop (o + 20) old) (sym (packed-more (f .before) r));
         latest = sym (last-more (f .before) r);
-        stepped = stepped-more (f .before) r n (f .latest) (f .stepped) y;
+        stepped = stepped-more (f .before) r n (f .latest) (f .stepped) v y;
       }
 
   -- What starts with `;` is no row, and what else is left starts with one.

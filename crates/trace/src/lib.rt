@@ -8,6 +8,7 @@ use lines::StartTime;
 use record::of_fields;
 use record::put_record;
 use records::back_after;
+use records::mark_after;
 use row::head_lines;
 use row_reader::expected_number;
 use row_reader::no_window;
@@ -248,8 +249,8 @@ fn judge(text: &[u8], from: usize, version: u64, start: u64, hex: &[u8; 256]) ->
     Judged::Good { rows, first }
 }
 
-// The second pass: the records of the rows are packed into the output, which has room for them, and the first step back is found. No line is
-// refused any more: what starts with `;` is a comment, and all else a row.
+// The second pass: the records of the rows are packed into the output, which has room for them, each with its mark, and the first step back is
+// found. No line is refused any more: what starts with `;` is a comment, and all else a row.
 fn fill(text: &[u8], from: usize, version: u64, first: u64, hex: &[u8; 256], out: &mut [u8]) -> u64
     requires { ⌜ RecordsFit (now text) (now out) from version first × HexTable (now hex) ⌝ }
     ensures { λ b. ⌜ Filled (now (text .entry)) (now (out .entry)) (now (out .exit)) b ⌝ }
@@ -281,8 +282,9 @@ fn fill(text: &[u8], from: usize, version: u64, first: u64, hex: &[u8; 256], out
                 return 0;
             }
             done += 1;
-            put_record(out, o, of_fields(&fields));
-            back = back_after(back, done, last, fields[0]);
+            let mark = mark_after(last, fields[0]);
+            put_record(out, o, of_fields(&fields), mark);
+            back = back_after(back, done, mark);
             last = fields[0];
             o += 20;
             at = next;

@@ -7,7 +7,8 @@ use lib.ListN.{length, take, drop, length-append}
 use lib.Seq.{take-at}
 use Rattle.record.specs.declared.Record.{Record}
 use Rattle.records.specs.Records.{packed, PacksAll}
-use Rattle.records.specs.StepBack.{stepBack}
+use Rattle.records.specs.StepBack.{stepBack, FirstMark}
+use Rattle.records.proofs.Marks.{first-mark}
 use Rattle.records.proofs.Packing.{packed-length}
 use Rattle.records.proofs.Records.{packs-all-one}
 use Rattle.trace.specs.declared.Outcome.the-variants as outcome
@@ -77,10 +78,17 @@ read-done {version} {start} {first} {rows} {out = out} (ReadPromise.done {t = t}
 read-done (ReadPromise.no-room h s r e q) = let z : _≡_ {A = ℕ} 0 8 = cc in absurd (omega arith)
 read-done (ReadPromise.refused {n = n} h f e q) = let z : 0 ≡ n = cc in absurd (omega (arith, refused-numbers f .0))
 
--- Their bytes are a well-formed list.
+-- Their bytes are a well-formed list, so that every mark is true,
 pub read-held : {version start first rows steps : ℕ} {text out x : List ℕ} (r : Read version start first rows steps text out x)
     → PacksAll (r .records) (take (20 * rows) x)
 read-held r = record { formed = read-writable (r .spelled) .formed; bytes = r .front }
+
+-- and the first step back is the position of the first mark among them, or 0 if there is none.
+pub first-marked : {version start first rows steps : ℕ} {text out x : List ℕ} → ReadPromise text out (readNumbers (outcome.Done version start rows steps first)) x
+    → FirstMark (take (20 * rows) x) steps
+first-marked p =
+    let r = read-done p in
+    rw (r .stepped, r .front) (first-mark (read-held r .formed))
 
 -- The records are in their space.
 pub read-within : {version start first rows steps : ℕ} {text out x : List ℕ} → ReadPromise text out (readNumbers (outcome.Done version start rows steps first)) x

@@ -1,17 +1,16 @@
--- What the first pass keeps: the records up to `at` are well formed, and either all carried, and measured, or the first misfit is known.
+-- What the first pass keeps: the records up to `at` are well formed, with true marks, and either all carried, and measured, or the first misfit is known.
 use Prim.Native.Nat.{ℕ, _+_, _*_, _≤_}
 use mathlib.Core.Path.{_≡_, refl, ap, sym, _∙_}
 use mathlib.Core.Logic.{_≢_}
 use mathlib.Core.List.{List, [], _∷_, _++_, append-assoc}
 use native.Mathlib.Decide.{ℕ-discrete}
 use native.Mathlib.Omega.{arith}
-use lib.ListN.{length, take, drop, length-append}
+use lib.ListN.{length, length-append}
 use Rattle.fields.specs.Columns.{lastNumber}
 use Rattle.record.specs.declared.Record.{Record}
-use Rattle.record.specs.Record.{Packs}
 use Rattle.records.specs.Records.{none}
 use Rattle.records.proofs.Lists.{each-snoc}
-use Rattle.records.proofs.Through.{Through, through, through-more, all-through}
+use Rattle.records.proofs.Through.{Through, NextIs, through, through-more, all-through}
 use Rattle.row.specs.Versions.{Carries}
 use Rattle.row.specs.House.{rowText}
 use Rattle.row.specs.inner.Sizes.{longestEnded}
@@ -25,17 +24,17 @@ use Rattle.trace_writer.specs.inner.Passes
 use Rattle.trace_writer.proofs.Rows.{rows-snoc}
 
 -- The next row has one of the numbers.
-pub row-numbered : {first at k : ℕ} {s : List ℕ} → Through s at k → NumberFits first s → at + 20 ≤ length s → (1 ≤ first + k) × (first + k ≤ lastNumber)
+pub row-numbered : {first at k last : ℕ} {s : List ℕ} → Through s at k last → NumberFits first s → at + 20 ≤ length s → (1 ≤ first + k) × (first + k ≤ lastNumber)
 row-numbered m n h = let p = m .place in (omega (arith, from-one n (omega arith)), omega (arith, next-number n))
 
 -- The first row has number `first`, and `wrong` is the first misfit, or 0.
-pub record Measuring (version first : ℕ) (s : List ℕ) (at k bytes wrong : ℕ) : Type 0 where
-  pub judged : Through s at k
+pub record Measuring (version first : ℕ) (s : List ℕ) (at k bytes wrong last : ℕ) : Type 0 where
+  pub judged : Through s at k last
   pub bounded : bytes ≤ longestEnded * k
   pub fits : wrong ≡ 0 → Carried version (judged .records) × (bytes ≡ length (rowsText version first (judged .records)))
   pub unfit : wrong ≢ 0 → FirstMisfit version (judged .records) wrong
 
-pub measuring : (version first : ℕ) (s : List ℕ) → Measuring version first s 0 0 0 0
+pub measuring : (version first : ℕ) (s : List ℕ) → Measuring version first s 0 0 0 0 0
 measuring version first s = record {
   judged = through s;
   bounded = omega arith;
@@ -43,9 +42,9 @@ measuring version first s = record {
   unfit = λ f. absurd (f refl);
 }
 
-module _ {version first : ℕ} {s : List ℕ} {at k bytes wrong : ℕ} (m : Measuring version first s at k bytes wrong) where
+module _ {version first : ℕ} {s : List ℕ} {at k bytes wrong last : ℕ} (m : Measuring version first s at k bytes wrong last) where
   -- One record more: carried or not.
-  module _ {r : Record} {n new : ℕ} (h : at + 20 ≤ length s) (p : Packs r (take 20 (drop at s))) (a : MisfitAfter wrong (k + 1) n new) where
+  module _ {r : Record} {n new : ℕ} (h : at + 20 ≤ length s) (p : NextIs s at last r) (a : MisfitAfter wrong (k + 1) n new) where
     some : Carries r version → n ≡ length (withEnd (rowText version (first + k) r)) → n ≢ 0
     some c e z = omega (arith, length-append (rowText version (first + k) r) (13 ∷ 10 ∷ []))
 
@@ -89,7 +88,7 @@ module _ {version first : ℕ} {s : List ℕ} {at k bytes wrong : ℕ} (m : Meas
             }
 
     pub measured-more : {number : ℕ} → number ≡ first + k → RowBytes version number r n × (n ≤ longestEnded)
-        → Measuring version first s (at + 20) (k + 1) (bytes + n) new
+        → Measuring version first s (at + 20) (k + 1) (bytes + n) new (r .offset)
     measured-more q b =
         let x = rw q at (b .0) in
         record {

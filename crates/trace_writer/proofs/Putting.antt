@@ -3,12 +3,13 @@ use Prim.Native.Nat.{ℕ, _+_, _≤_, _<_}
 use mathlib.Core.Path.{_≡_, refl, ap, _∙_}
 use mathlib.Core.List.{List, [], _∷_}
 use native.Mathlib.Omega.{arith}
-use lib.ListN.{length, take, drop, length-append}
+use lib.ListN.{length, length-append}
 use Rattle.base.specs.inner.Wrote.{Wrote}
 use Rattle.base.proofs.Lists.{then}
 use Rattle.fields.specs.Columns.{lastNumber}
 use Rattle.record.specs.declared.Record.{Record}
-use Rattle.record.specs.Record.{WellFormed, Packs}
+use Rattle.record.specs.Record.{WellFormed}
+use Rattle.record.specs.inner.PackedAt.{PackedAt}
 use Rattle.records.proofs.Lists.{each-head, each-tail}
 use Rattle.records.proofs.Ahead.{Ahead, ahead, later, after-next, ahead-more, all-behind}
 use Rattle.row.specs.Versions.{Carries}
@@ -42,7 +43,7 @@ putting f = record {
   same = refl;
 }
 
-module _ {version first : ℕ} {s old out : List ℕ} {from at k p : ℕ} (f : Putting version first s old out from at k p) {r : Record} (h : at < length s) (b : Packs r (take 20 (drop at s))) where
+module _ {version first : ℕ} {s old out : List ℕ} {from at k p : ℕ} (f : Putting version first s old out from at k p) {r : Record} (h : at < length s) (b : PackedAt s at r) where
   abbrev rest : List Record
   rest = later (f .records) h b
 
@@ -56,7 +57,7 @@ module _ {version first : ℕ} {s old out : List ℕ} {from at k p : ℕ} (f : P
 
   -- The next row can be put.
   pub next-row : WellFormed r × Carries r version × (1 ≤ k) × (k ≤ lastNumber)
-  next-row = (b .formed, each-head (rw all at (f .carried)), f .low (omega (arith, ap length all)), omega (arith, f .few, ap length all))
+  next-row = (b .packs .formed, each-head (rw all at (f .carried)), f .low (omega (arith, ap length all)), omega (arith, f .few, ap length all))
 
   pub next-room : p + length (rowText version k r) + 2 ≤ length out
   next-room = omega (arith, f .room, f .same, text)

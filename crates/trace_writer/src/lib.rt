@@ -127,7 +127,7 @@ fn is_first(first: u64, rows: u64) -> bool
     true
 }
 
-// The first pass: every record is judged, and the rows are measured, from the first number on.
+// The first pass: every record and its mark is judged, and the rows are measured, from the first number on. `last` is the offset of the record before.
 fn measure_rows(version: u64, first: u64, records: &[u8]) -> Size
     requires { ⌜ Whole (now records) × NumberFits first (now records) ⌝ }
     ensures { λ m. ⌜ MeasuresRows version first (now (records .entry)) m ⌝ }
@@ -136,15 +136,17 @@ fn measure_rows(version: u64, first: u64, records: &[u8]) -> Size
     let mut k: u64 = 0;
     let mut size: usize = 0;
     let mut misfit: u64 = 0;
+    let mut last: u64 = 0;
     while at < records.len() {
         k += 1;
-        let e = record_at(records, at);
+        let e = record_at(records, at, last);
         let Entry::Is(r) = e else {
             return Size::Bad {
                 number: 23,
                 place: k,
             };
         };
+        last = r.offset;
         let n = row_bytes(version, first + k - 1, r);
         misfit = misfit_after(misfit, k, n);
         size += n;

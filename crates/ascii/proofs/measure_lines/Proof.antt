@@ -9,10 +9,10 @@ use Rattle.ascii.proofs.measure_lines.Statement.{statement}
 use Rattle.ascii.proofs.measure_lines.Tie as tie
 
 abbrev Inv-loop : tie.InvT-loop
-Inv-loop channel s at₀ k₀ bytes₀ lines₀ at k bytes lines = Measuring channel s at k bytes lines
+Inv-loop channel s at₀ k₀ bytes₀ lines₀ last₀ at k bytes lines last = Measuring channel s at k bytes lines last
 
 abbrev μ-loop : tie.MeasureT-loop
-μ-loop channel s at₀ k₀ bytes₀ lines₀ at k bytes lines = length s - at
+μ-loop channel s at₀ k₀ bytes₀ lines₀ last₀ at k bytes lines last = length s - at
 
 -- the record that is being measured is whole
 room : (c : tie.After-frame Inv-loop μ-loop) → c .before .before .before .before .before .before .before .loop .at + 20 ≤ length (c .before .before .before .before .before .before .before .before .before .args .records .now)

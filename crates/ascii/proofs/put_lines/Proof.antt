@@ -35,15 +35,15 @@ put-lines-spec =
     let l = c .before .loop .inv .0 .records in
     let h = next-place l (c .loop-test .taken) in
     packed-there (l .whole) (omega arith) (omega arith))
-    (λ c κs. (c .before .before .before .before .before .before .before .before .pre .1, omega (arith, c .packed-at .ensures .formed .offset)))
+    (λ c κs. (c .before .before .before .before .before .before .before .before .pre .1, omega (arith, c .packed-at .ensures .packs .formed .offset)))
     (λ c κs.
     let a = c .before .before in
-    (a .before .before .loop .inv .1, a .before .before .before .before .before .before .before .before .pre .1, omega (arith, a .packed-at .ensures .formed .offset), ap (λ (t : ℕ). t / 10000) (c .before .ticks-of .ensures)))
+    (a .before .before .loop .inv .1, a .before .before .before .before .before .before .before .before .pre .1, omega (arith, a .packed-at .ensures .packs .formed .offset), ap (λ (t : ℕ). t / 10000) (c .before .ticks-of .ensures)))
     (λ c κs.
     let a = c .before .before .before .before .before .before in
     let r = a .packed-at .ensures in
     let z = some-stamp (a .before .before .before .before .before .before .before .before .args .start) (a .packed-at .result .offset) in
-    (r .formed, (z .0, λ k. next-room (a .before .before .loop .inv .0) (a .before .loop-test .taken) r (z .1) k), a .before .before .before .pairs .ensures))
+    (r .packs .formed, (z .0, λ k. next-room (a .before .before .loop .inv .0) (a .before .loop-test .taken) r (z .1) k), a .before .before .before .pairs .ensures))
     (λ c. omega (arith, whole c, c .before .before .before .before .before .before .before .before .before .before .before .before .before .before .before .before .before .good))
     (λ c. omega (arith, whole c))
     (λ c.

@@ -12,10 +12,10 @@ use Rattle.ascii_reader.proofs.fill.Statement.{statement}
 use Rattle.ascii_reader.proofs.fill.Tie as tie
 
 abbrev Inv-loop : tie.InvT-loop
-Inv-loop text start hex out₀ at₀ o₀ w₀ base₀ out at o w base = Filling start text out₀ out at o × Windowed (crForAll text) base w × (base ≤ at)
+Inv-loop text start hex out₀ at₀ o₀ last₀ w₀ base₀ out at o last w base = Filling start text out₀ out at o last × Windowed (crForAll text) base w × (base ≤ at)
 
 abbrev μ-loop : tie.MeasureT-loop
-μ-loop text start hex out₀ at₀ o₀ w₀ base₀ out at o w base = length text - at
+μ-loop text start hex out₀ at₀ o₀ last₀ w₀ base₀ out at o last w base = length text - at
 
 -- The line that was found.
 found : (c : tie.Else1 Inv-loop μ-loop) → Found (c .before .before .before .before .before .before .before .before .before .before .before .before .before .args .text .now) (c .before .before .before .before .before .before .before .loop .at) (c .before .before .line-at .result)
@@ -36,13 +36,15 @@ fill-spec =
     (λ c. let f = found (c .before) in omega (arith, found-low f, stamp-low (c .before .before .before .before .before .before .before .before .loop .inv .0) f))
     (λ c. let f = found (c .before) in omega (arith, found-low f, stamp-low (c .before .before .before .before .before .before .before .before .loop .inv .0) f))
     (λ c κs. search needs)
-    (λ c κs. let m = line-room (c .before .before .before .before .before .before .before .before .before .before .before .loop .inv .0) (found (c .before .before .before .before)) in (m .0, rw (c .with-offset .ensures) (m .1)))
-    (λ c. let j = c .before .before .before .before .before .before .before .before .before .before .before .before .before .before .loop .inv .0 in omega (arith, line-room j (found (c .before .before .before .before .before .before .before)) .0, out-length j, c .before .before .before .before .before .before .before .before .before .before .before .before .before .before .before .before .before .before .before .before .good))
-    (λ c. let f = found (c .before .before .before .before .before .before .before) in let a = f .later in let b = f .within in omega arith)
+    (λ c κs. search needs)
+    (λ c κs. let m = line-room (c .before .before .before .before .before .before .before .before .before .before .before .before .loop .inv .0) (found (c .before .before .before .before .before)) (c .mark-after .ensures) in (m .0, rw (c .before .with-offset .ensures) (m .1), m .2))
+    (λ c. let j = c .before .before .before .before .before .before .before .before .before .before .before .before .before .before .before .loop .inv .0 in omega (arith, line-room j (found (c .before .before .before .before .before .before .before .before)) (c .before .before .before .mark-after .ensures) .0, out-length j, c .before .before .before .before .before .before .before .before .before .before .before .before .before .before .before .before .before .before .before .before .before .good))
+    (λ c. let f = found (c .before .before .before .before .before .before .before .before) in let a = f .later in let b = f .within in omega arith)
     (λ c.
-    let f = found (c .before .before .before .before .before .before .before) in
-    let w = c .before .before .before .before .before .before .before .before .before .before .before .window-at .ensures in
+    let f = found (c .before .before .before .before .before .before .before .before) in
+    let w = c .before .before .before .before .before .before .before .before .before .before .before .before .window-at .ensures in
     let a = f .later in
-    (stored-line (c .before .before .before .before .before .before .before .before .before .before .before .before .before .before .loop .inv .0) f (rw (c .before .before .before .with-offset .ensures) at (c .before .before .put-record .ensures)), w .windowed, omega (arith, w .starts)))
+    let e = rw (c .before .before .before .before .with-offset .ensures) at (c .before .before .put-record .ensures) in
+    (stored-line (c .before .before .before .before .before .before .before .before .before .before .before .before .before .before .before .loop .inv .0) f (c .before .before .before .mark-after .ensures) e, w .windowed, omega (arith, w .starts)))
     (λ c. out-length (c .before .loop .inv .0))
     (λ c. filled (c .before .loop .inv .0) (c .loop-test .left)))

@@ -8,7 +8,7 @@ use Rattle.record.proofs.packed_at.Statement.{statement}
 use Rattle.record.proofs.packed_at.Tie as tie
 
 within : (c : tie.Start) → c .args .at + 20 ≤ length (c .args .s .now)
-within c = packed-within (c .args .at) (c .args .s .now) (c .pre .packs)
+within c = packed-within (c .args .at) (c .args .s .now) (c .pre .1 .packs)
 
 words : (c : tie.After-get82)
     → Words (c .before .before .before .before .args .s .now) (c .before .before .before .before .args .at) (c .before .before .get4 .result) (c .before .get8 .result) (c .get82 .result)
@@ -24,10 +24,11 @@ packed-at-spec =
     (λ c κs. omega (arith, within (c .before .before .before)))
     (λ c κs. (
       omega arith,
-      spare _ (c .get82 .result) (words c .below) (words c .are) (c .before .before .before .before .pre .packs),
+      spare _ (c .get82 .result) (words c .below) (words c .are) (c .before .before .before .before .pre .1 .packs),
     ))
     (λ c.
     let g = c .before in
     let r = c .record-of in
-    let p = g .before .before .before .before .pre .packs in
-    rw (only (words g .below) (words g .are) (widths-of (r .ensures .1)) (r .ensures .0) p) at p))
+    let h = g .before .before .before .before .pre .1 in
+    let z = only (words g .below) (words g .are) (widths-of (r .ensures .1)) (omega arith) (r .ensures .0) (h .packs) in
+    record { mark = h .mark; packs = rw (z .0) at (h .packs) }))

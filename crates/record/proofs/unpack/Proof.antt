@@ -29,7 +29,7 @@ unpack-spec =
     (λ c.
     let g = c .before in
     UnpackPromise.malformed (omega arith)
-    (λ t p. c .if2 .taken (omega (arith, spare _ (g .get82 .result) (words g .below) (words-are g) p))) refl)
+    (λ t m p. c .if2 .taken (omega (arith, spare _ (g .get82 .result) (words g .below) (words-are g) p))) refl)
     (λ c κs. search needs)
     (λ c κs. search needs)
     (λ c.
@@ -39,10 +39,10 @@ unpack-spec =
     let b = widths-of (r .ensures .1) in
     let n = refuted-not (w .result) (w .ensures) (c .if3 .taken) in
     UnpackPromise.malformed (omega arith)
-    (λ t p. n (rw (only (words g .below) (words-are g) b (r .ensures .0) p) at (p .formed))) refl)
+    (λ t m p. n (rw (only (words g .below) (words-are g) b (omega arith) (r .ensures .0) p .0) at (p .formed))) refl)
     (λ c.
     let w = c .before .well-formed in
     let r = c .before .before .record-of in
     let s = words-are (c .before .before .before .before) in
     let f = shown-not (w .result) (w .ensures) (c .if3 .left) in
-    UnpackPromise.fields (record { formed = f; packed = s ∙ ap (bytes 20) (sym (r .ensures .0)) }) refl))
+    UnpackPromise.fields (record { formed = f; bit = omega arith; packed = s ∙ ap (bytes 20) (sym (r .ensures .0)) }) refl))

@@ -41,27 +41,29 @@ fill-spec =
     (λ c. out-length (c .before .before .before .before .before .before .before .before .before .loop .inv .0))
     (λ c. let x = row-next (c .before .before .before .before .before .before .before .before .before .loop .inv .0) (omega arith) (c .before .before .before .before .before .before .before .before .loop-test .taken) (c .before .before .before .before .before .before .if1 .left) in absurd (not-found (c .before .row-at .ensures) (c .if2 .taken) (x .r) (x .line) (x .after) (x .is) (x .row)))
     (λ c. let f = c .before .before .before .before .before .before .before .before .before .loop .inv .0 .few in omega (arith, c .before .before .before .before .before .before .before .before .loop-test .taken))
+    (λ c. search needs)
+    (λ c κs. search needs)
     (λ c κs. search needs)
     (λ c κs.
-    let f = was-found (c .before .before .before .before .row-at .ensures) (c .before .before .before .if2 .left) in
-    let m = row-room (c .before .before .before .before .before .before .before .before .before .before .before .before .loop .inv .0) _ (f .line) (omega arith) (f .there) (f .row) in
-    (m .0, rw (c .of-fields .ensures) (m .1)))
-    (λ c. search needs)
+    let f = was-found (c .before .before .before .before .before .row-at .ensures) (c .before .before .before .before .if2 .left) in
+    let m = row-room (c .before .before .before .before .before .before .before .before .before .before .before .before .before .loop .inv .0) _ (f .line) (omega arith) (f .there) (f .row) (c .before .before .before .mark-after .ensures) in
+    (m .0, rw (c .of-fields .ensures) (m .1), m .2))
     (λ c κs. search needs)
     (λ c. search needs)
     (λ c.
-    let f = was-found (c .before .before .before .before .before .before .before .before .row-at .ensures) (c .before .before .before .before .before .before .before .if2 .left) in
-    let m = row-room (c .before .before .before .before .before .before .before .before .before .before .before .before .before .before .before .before .loop .inv .0) _ (f .line) (omega arith) (f .there) (f .row) .0 in
-    omega (arith, out-length (c .before .before .before .before .before .before .before .before .before .before .before .before .before .before .before .before .loop .inv .0), c .before .before .before .before .before .before .before .before .before .before .before .before .before .before .before .before .before .before .before .before .before .before .good))
+    let f = was-found (c .before .before .before .before .before .before .before .before .before .row-at .ensures) (c .before .before .before .before .before .before .before .before .if2 .left) in
+    let m = row-room (c .before .before .before .before .before .before .before .before .before .before .before .before .before .before .before .before .before .loop .inv .0) _ (f .line) (omega arith) (f .there) (f .row) (c .before .before .before .before .before .before .before .mark-after .ensures) .0 in
+    omega (arith, out-length (c .before .before .before .before .before .before .before .before .before .before .before .before .before .before .before .before .before .loop .inv .0), c .before .before .before .before .before .before .before .before .before .before .before .before .before .before .before .before .before .before .before .before .before .before .before .good))
     (λ c.
-    let f = was-found (c .before .before .before .before .before .before .before .before .row-at .ensures) (c .before .before .before .before .before .before .before .if2 .left) in
+    let f = was-found (c .before .before .before .before .before .before .before .before .before .row-at .ensures) (c .before .before .before .before .before .before .before .before .if2 .left) in
     let a = f .there .later in
     let b = f .there .within in
     omega arith)
     (λ c.
-    let f = was-found (c .before .before .before .before .before .before .before .before .row-at .ensures) (c .before .before .before .before .before .before .before .if2 .left) in
-    let w = c .before .before .before .before .before .before .before .before .before .before .before .window-at .ensures in
+    let f = was-found (c .before .before .before .before .before .before .before .before .before .row-at .ensures) (c .before .before .before .before .before .before .before .before .if2 .left) in
+    let w = c .before .before .before .before .before .before .before .before .before .before .before .before .window-at .ensures in
     let a = f .there .later in
-    (stored-row (c .before .before .before .before .before .before .before .before .before .before .before .before .before .before .before .before .loop .inv .0) _ (f .line) _ (omega arith) (f .there) (f .row) (rw (c .before .before .before .before .of-fields .ensures) at (c .before .before .before .put-record .ensures)) (c .back-after .ensures), w .windowed, omega (arith, w .starts)))
+    let e = rw (c .before .before .before .before .of-fields .ensures) at (c .before .before .before .put-record .ensures) in
+    (stored-row (c .before .before .before .before .before .before .before .before .before .before .before .before .before .before .before .before .before .loop .inv .0) _ (f .line) _ (omega arith) (f .there) (f .row) (c .before .before .before .before .before .before .before .mark-after .ensures) e (c .back-after .ensures), w .windowed, omega (arith, w .starts)))
     (λ c. out-length (c .before .loop .inv .0))
     (λ c. filled (c .before .loop .inv .0) (c .loop-test .left)))

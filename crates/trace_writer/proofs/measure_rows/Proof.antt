@@ -11,10 +11,10 @@ use Rattle.trace_writer.proofs.measure_rows.Statement.{statement}
 use Rattle.trace_writer.proofs.measure_rows.Tie as tie
 
 abbrev Inv-loop : tie.InvT-loop
-Inv-loop version first s at₀ k₀ size₀ misfit₀ at k size misfit = Measuring version first s at k size misfit
+Inv-loop version first s at₀ k₀ size₀ misfit₀ last₀ at k size misfit last = Measuring version first s at k size misfit last
 
 abbrev μ-loop : tie.MeasureT-loop
-μ-loop version first s at₀ k₀ size₀ misfit₀ at k size misfit = length s - at
+μ-loop version first s at₀ k₀ size₀ misfit₀ last₀ at k size misfit last = length s - at
 
 -- the record that is being measured is whole
 room : (c : tie.After-misfit-after Inv-loop μ-loop) → c .before .before .before .before .before .before .before .loop .at + 20 ≤ length (c .before .before .before .before .before .before .before .before .before .args .records .now)
