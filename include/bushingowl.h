@@ -46,12 +46,25 @@
  *     29  ID        standard 0 to 0x7FF, extended 0 to 0x1FFFFFFF
  *      4  length    0 to 8
  *     64  data      eight bytes, the first one first; those past the length are 0
- *      6  zero
+ *      1  mark      1 for a step back, 0 for none
+ *      5  zero
  *
  * A record is well formed if its fields lie within these limits and, by its kind: of a remote frame all data is 0 (its
  * length is the one asked for); a warning has extended 0, ID 0 and length 4; an error frame has extended 0, ID 1, 2, 4
  * or 8, length 4, a first byte of 0 (sending) or 1 (receiving) and as second byte a position in the bit stream: 2 to 15,
  * 17, 18, 19, 23 to 28. Its third and fourth byte are the error counters.
+ *
+ * MARKS
+ *
+ * In a list the mark of a record is 1 exactly if its offset is below that of the record before it; the first record has
+ * 0. It is the bit of weight 32 in the last of the 20 bytes. Texts have no marks: bo_read and bo_read_ascii set them in
+ * the records that they give. bo_write and bo_export check them, and refuse a list in which one is false with 23. A
+ * single record may have either mark: bo_unpack gives it, and bo_pack is given it. So a record that is copied out of
+ * its list still tells whether the offset stepped back there.
+ *
+ * Who makes a list of copied records, some of them or in another order, sets the marks anew: 1 where the offset is
+ * below that of the record before it in the new list, and 0 elsewhere. A list that was packed before there were marks
+ * has 0 everywhere; if it steps back, its marks have to be set as well.
  *
  * CHANNELS
  *
@@ -79,7 +92,7 @@
  *   26   0       the first number is 0 with records, or not 0 without, or the last      bo_write
  *                row's would be above 999,999
  *   35   0       the channel of bus 0 is above 16, also where no record has bus 0       bo_export
- *   23   record  the first record that is not well formed                               bo_write, bo_export
+ *   23   record  the first record that is not well formed or whose mark is false        bo_write, bo_export
  *        1       the record is not well formed                                          bo_unpack, bo_pack
  *   24   record  the first record that the version can't carry: 11 needs bus 0 and      bo_write
  *                an offset of whole 100 microseconds, 12 needs bus 1 to 16
@@ -97,7 +110,7 @@
  * Of several, bo_read gives 1 first, then that of the earliest line (on one line 2, then 3, then the rest), and 8 last.
  * bo_read_ascii gives 1 first, then that of the earliest line (on one line 31, then 32 or 33), then 34, and 8 last: a
  * wrong line comes before 34, even behind 999,999 good ones. The others give the one that stands first in this table,
- * in which 26 and 35 come before 23; bo_write tests all records for 23 before any for 24.
+ * in which 26 and 35 come before 23; bo_write tests all records, and their marks, for 23 before any for 24.
  * docs/FORMAT.md says what a row, a comment and the first two lines are, and what a line of Telemotive ASCII is.
  */
 #ifndef BUSHINGOWL_H
@@ -112,8 +125,8 @@ extern "C" {
 
 /* The state of this interface: one more whenever a function is added, or its parameters or answer change. 2 added
  * bo_explain; 3 gave bo_read and bo_write the first number; 4 added bo_read_ascii; 5 gave bo_export the channel of
- * bus 0. */
-#define BUSHINGOWL_API 5
+ * bus 0; 6 gave the packed records their marks, and with them bo_pack a field and bo_unpack a number more. */
+#define BUSHINGOWL_API 6
 
 /* The kinds of a record. Only data frames give a line of an export. */
 #define BUSHINGOWL_DATA_RECEIVED 0
@@ -174,17 +187,19 @@ extern "C" {
 #define BUSHINGOWL_CHANNEL_AS_BUS 0
 #define BUSHINGOWL_CHANNEL_AS_BENCH 1
 
-/* Reads a trace text into packed records.
+/* Reads a trace text into packed records, each with its mark.
  * out: BUSHINGOWL_RECORD bytes for each row; text_len / BUSHINGOWL_LEAST_ROW * BUSHINGOWL_RECORD bytes are enough for
  *   any text, and so are BUSHINGOWL_MOST_ROWS * BUSHINGOWL_RECORD.
  * answer: number, place (a line), version (11 for 1.1, 12 for 1.2), start, rows, first step back, first number.
  *   The first step back is the position, from 1, of the first row whose offset is below that of the row before it (0 if
- *   there is none). It is not that row's number in the text, which is answer[6] + answer[5] - 1.
+ *   there is none), and so of the first record with mark 1. It is not that row's number in the text, which is
+ *   answer[6] + answer[5] - 1.
  *   The first number is that of the first row in the text, 1 to 999,999 (0 if there are no rows).
  * Refusals: 1 to 8. */
 void bo_read(const uint8_t *text, size_t text_len, uint8_t *out, size_t out_len, uint64_t answer[7]);
 
 /* Writes packed records as a trace text, which bo_read reads back as the same version, start, records and first number.
+ * The marks are not written, but checked: one that is false is 23.
  * version: 11 for 1.1, 12 for 1.2.
  * first: the number of the first row, from 1; 0 where there are no records. Each next row gets one more, and the last
  *   at most 999,999. To write what was read, give what bo_read gave in answer[6].
@@ -195,7 +210,8 @@ void bo_write(uint32_t version, uint64_t start, uint64_t first, const uint8_t *r
               uint8_t *out, size_t out_len, uint64_t answer[3]);
 
 /* Exports the data frames among packed records as lines of Telemotive ASCII; the other records are left out. A stamp is
- * cut to 100 microseconds.
+ * cut to 100 microseconds. The marks are not written, but checked, those of the records that are left out as well: one
+ * that is false is 23.
  * channel: the channel that bus 0 is written as, 0 to 16, such as BUSHINGOWL_CHANNEL_AS_BUS or
  *   BUSHINGOWL_CHANNEL_AS_BENCH; every other bus is written as the channel of its number. Two loggers whose records
  *   have no bus look like one, unless each is exported with a channel of its own.
@@ -226,6 +242,7 @@ void bo_export(uint64_t start, uint64_t channel, const uint8_t *records, size_t 
  *   0.9 milliseconds may still lie at the start or behind it.
  *   The kind of a record is 0 for Rx and 1 for Tx, and its bus is the channel; channel 0 is bus 0. What bo_export wrote
  *   for bus 0 comes back as the bus of the channel that was given: exported with BUSHINGOWL_CHANNEL_AS_BENCH, as bus 1.
+ *   The mark of a record is 1 where its stamp lies before that of the line before it, whatever it was when exported.
  *   What an export leaves out or cuts off does not come back: records of other kinds, microseconds below 100, the start
  *   of the trace.
  *   bo_write takes records of channel 1 to 16 in version 12, and those of channel 0 in version 11, since all offsets
@@ -235,17 +252,19 @@ void bo_export(uint64_t start, uint64_t channel, const uint8_t *records, size_t 
 void bo_read_ascii(const uint8_t *text, size_t text_len, uint8_t *out, size_t out_len, uint64_t answer[4]);
 
 /* Takes one packed record of BUSHINGOWL_RECORD bytes apart.
- * answer: number, place, offset, bus, kind, extended, ID, length, data (the first byte the most significant).
+ * answer: number, place, offset, bus, kind, extended, ID, length, data (the first byte the most significant), mark.
+ *   The mark, 0 or 1, speaks of the list that the record stood in; here either is good.
  * Refusals: 20, 23. */
-void bo_unpack(const uint8_t *record, size_t record_len, uint64_t answer[9]);
+void bo_unpack(const uint8_t *record, size_t record_len, uint64_t answer[10]);
 
 /* Packs one record.
- * fields: offset, bus, kind, extended, ID, length, data (the first byte the most significant), each with any value;
- *   what is not well formed is 23.
+ * fields: offset, bus, kind, extended, ID, length, data (the first byte the most significant), mark, each with any
+ *   value; what is not well formed is 23, a mark above 1 among it. They stand in the order of bo_unpack's answer from
+ *   answer[2] on: where that is accepted, answer + 2 packs the record again, with another mark if answer[9] is changed.
  * out: BUSHINGOWL_RECORD bytes.
  * answer: number, place.
  * Refusals: 23, 25. */
-void bo_pack(const uint64_t fields[7], uint8_t *out, size_t out_len, uint64_t answer[2]);
+void bo_pack(const uint64_t fields[8], uint8_t *out, size_t out_len, uint64_t answer[2]);
 
 /* Tells what is wrong with a line that bo_read refused with 7: which field to look at.
  * A field is one byte or more, none of them a blank (byte 32 only), with blanks or an end of the line on either side.
