@@ -89,16 +89,16 @@ pub fn write(version: u32, start: u64, first: u64, records: &[u8], out: &mut [u8
     answer
 }
 
-pub fn unpack(record: &[u8]) -> [u64; 9] {
-    let mut answer = [UNSET; 9];
-    // SAFETY: see above; the answer has room for the nine numbers of the header.
+pub fn unpack(record: &[u8]) -> [u64; 10] {
+    let mut answer = [UNSET; 10];
+    // SAFETY: see above; the answer has room for the ten numbers of the header.
     unsafe { c::bo_unpack(record.as_ptr(), record.len(), answer.as_mut_ptr()) }
     answer
 }
 
-pub fn pack(fields: &[u64; 7], out: &mut [u8]) -> [u64; 2] {
+pub fn pack(fields: &[u64; 8], out: &mut [u8]) -> [u64; 2] {
     let mut answer = [UNSET; 2];
-    // SAFETY: see above; there are seven fields, and the answer has room for the two numbers of the header.
+    // SAFETY: see above; there are eight fields, and the answer has room for the two numbers of the header.
     unsafe {
         c::bo_pack(
             fields.as_ptr(),

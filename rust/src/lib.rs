@@ -18,6 +18,9 @@
 //! of the trace, and not of its records: reading gives it ([`Read::first`]), and writing is given it. [`Read::write`] and
 //! [`Read::write_to_vec`] pass it on from one to the other.
 //!
+//! In a list each record has a mark that tells whether its offset is below that of the record before it
+//! ([`Record::mark`]). [`read`] and [`read_ascii`] set the marks, and [`write()`] and [`export`] check them.
+//!
 //! A line of Telemotive ASCII has a channel, 0 to [`MOST_CHANNEL`]. Bus 1 to 16 is exported as the channel of its number,
 //! and bus 0, which means none, as the channel that the caller gives: [`CHANNEL_AS_BENCH`], or another one to tell two
 //! loggers apart. Read back, each channel is the bus of its number. [`CHANNEL_AS_BUS`] is for what is to come back as it
@@ -92,8 +95,8 @@ pub struct Read {
     /// Milliseconds from 30 December 1899.
     pub start: u64,
     pub rows: usize,
-    /// The position among the rows, from 1, of the first one whose offset is below that of the row before it. Its number
-    /// in the text is `first + step_back - 1`.
+    /// The position among the rows, from 1, of the first one whose offset is below that of the row before it, and so of
+    /// the first record with a mark. Its number in the text is `first + step_back - 1`.
     pub step_back: Option<usize>,
     /// The number of the first row, from 1; 0 where there are no rows.
     pub first: u64,
@@ -156,7 +159,7 @@ pub struct ReadAscii {
     pub records: usize,
 }
 
-/// Reads a trace text into packed records, [`RECORD`] bytes for each row.
+/// Reads a trace text into packed records, [`RECORD`] bytes for each row, and sets their marks ([`Record::mark`]).
 /// `text.len() / LEAST_ROW * RECORD` bytes are enough for any text, and so are `MOST_ROWS * RECORD`.
 ///
 /// Refused with the numbers 1 to 8: 1 first, then that of the earliest line, 8 last.
@@ -204,6 +207,9 @@ pub fn read_to_vec(text: &[u8]) -> Result<(Read, Vec<u8>), Refused> {
 ///
 /// The first number is that of the first row, from 1, or 0 where there are no records. [`Read::write`] gives the one that
 /// was read.
+///
+/// The marks of the records ([`Record::mark`]) are not written, but checked: 23 names the first record that is not well
+/// formed or whose mark is wrong.
 ///
 /// Refused with the numbers 20 to 26: of several the first of 20, 21, 22, 26, 23, 24, 25.
 ///
@@ -254,11 +260,14 @@ pub fn write_to_vec(
 /// Bus 0 is written as the channel that is given, at most [`MOST_CHANNEL`], and every other bus as the channel of its
 /// number. Two loggers whose records have no bus look like one, unless each is exported with a channel of its own.
 ///
+/// The marks of the records ([`Record::mark`]) are not written, but checked, those of the records that are left out as
+/// well: 23 names the first record that is not well formed or whose mark is wrong.
+///
 /// Refused with the numbers 20, 22, 35, 23 and 25: of several the first in this order.
 ///
 /// ```
 /// use bushingowl::{export, pack, Kind, Record, CHANNEL_AS_BENCH, MOST_LINE, RECORD};
-/// let frame = Record { offset: 1_500_250, bus: 2, kind: Kind::DataSent, extended: true, id: 0x18AB_0001, length: 0, data: [0; 8] };
+/// let frame = Record { offset: 1_500_250, bus: 2, kind: Kind::DataSent, extended: true, id: 0x18AB_0001, length: 0, data: [0; 8], mark: false };
 /// let mut record = [0; RECORD];
 /// pack(&frame, &mut record)?;
 /// let mut lines = [0; MOST_LINE];
@@ -319,7 +328,8 @@ pub fn export_to_vec(
 ///
 /// The start is the stamp of the first line, cut to the millisecond, and offsets count from it. Stamps may go back from
 /// line to line, but not to before the start. The bus is the channel, 0 to 16, and channel 0 is bus 0. So bus 0, exported
-/// with [`CHANNEL_AS_BENCH`], comes back as bus 1. What an export leaves out or cuts off does not come back.
+/// with [`CHANNEL_AS_BENCH`], comes back as bus 1. What an export leaves out or cuts off does not come back. The marks
+/// ([`Record::mark`]) are set where a stamp lies before that of the line before it, whatever they were when exported.
 ///
 /// Version 1.2 carries the records of channels 1 to 16, and version 1.1 those of channel 0, since all offsets here are
 /// whole 100 microseconds. Where a text has lines of both, no version carries all its records.
@@ -374,15 +384,17 @@ pub fn read_ascii_to_vec(text: &[u8]) -> Result<(ReadAscii, Vec<u8>), Refused> {
     Ok((back, records))
 }
 
-/// Takes one packed record of [`RECORD`] bytes apart.
+/// Takes one packed record of [`RECORD`] bytes apart. It may have either mark.
 ///
 /// Refused with the numbers 20 and 23.
 ///
 /// ```
 /// use bushingowl::{unpack, Kind};
-/// let record = unpack(&[0, 0, 0, 0, 0, 0, 8, 0, 0, 4, 0x8C, 0x82, 0xBF, 0xC0, 0, 0, 0, 0, 0, 0])?;
+/// let record = unpack(&[0, 0, 0, 0, 0, 0, 8, 0, 0, 4, 0x8C, 0x82, 0xBF, 0xC0, 0, 0, 0, 0, 0, 32])?;
 /// assert_eq!((record.bus, record.kind, record.id), (1, Kind::DataReceived, 0x123));
 /// assert_eq!(record.data[..record.length.into()], [0x0A, 0xFF]);
+/// // It stepped back in its list.
+/// assert!(record.mark);
 /// # Ok::<(), bushingowl::Refused>(())
 /// ```
 pub fn unpack(record: &[u8]) -> Result<Record, Refused> {
@@ -391,16 +403,17 @@ pub fn unpack(record: &[u8]) -> Result<Record, Refused> {
     Ok(Record::of_fields(fields))
 }
 
-/// Packs one record into the first [`RECORD`] bytes of the output.
+/// Packs one record into the first [`RECORD`] bytes of the output. It may have either mark.
 ///
 /// Refused with the numbers 23 and 25.
 ///
 /// ```
 /// use bushingowl::{pack, Kind, Reason, Record, RECORD};
-/// let frame = Record { offset: 0, bus: 17, kind: Kind::RemoteReceived, extended: false, id: 0x124, length: 3, data: [0; 8] };
+/// let frame = Record { offset: 0, bus: 17, kind: Kind::RemoteReceived, extended: false, id: 0x124, length: 3, data: [0; 8], mark: true };
 /// let mut packed = [0; RECORD];
 /// assert_eq!(pack(&frame, &mut packed).unwrap_err().reason, Reason::NotWellFormed);
 /// assert_eq!(pack(&Record { bus: 16, ..frame }, &mut packed), Ok(()));
+/// assert_eq!(packed[19], 32);
 /// ```
 pub fn pack(record: &Record, out: &mut [u8]) -> Result<(), Refused> {
     let [number, place] = numbers::pack(&record.fields(), out);

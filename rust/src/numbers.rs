@@ -14,13 +14,14 @@ pub fn write(version: u32, start: u64, first: u64, records: &[u8], out: &mut [u8
     boundary::write(version, start, first, records, out)
 }
 
-/// Number, place, offset, bus, kind, extended, ID, length, data.
-pub fn unpack(record: &[u8]) -> [u64; 9] {
+/// Number, place, offset, bus, kind, extended, ID, length, data, mark.
+pub fn unpack(record: &[u8]) -> [u64; 10] {
     boundary::unpack(record)
 }
 
-/// Number, place. The fields are offset, bus, kind, extended, ID, length, data.
-pub fn pack(fields: &[u64; 7], out: &mut [u8]) -> [u64; 2] {
+/// Number, place. The fields are offset, bus, kind, extended, ID, length, data, mark, each with any value; a mark above 1
+/// is 23.
+pub fn pack(fields: &[u64; 8], out: &mut [u8]) -> [u64; 2] {
     boundary::pack(fields, out)
 }
 

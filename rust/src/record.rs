@@ -58,13 +58,20 @@ pub struct Record {
     pub id: u32,
     /// 0 to 8; of a remote frame the length asked for. 4 bits.
     pub length: u8,
-    /// Those past the length are 0, and all of them in a remote frame. 64 bits; six zero bits follow.
+    /// Those past the length are 0, and all of them in a remote frame. 64 bits.
     pub data: [u8; 8],
+    /// Whether the offset is below that of the record before it in its list: a step back. 1 bit; five zero bits follow.
+    ///
+    /// In a list it is so for every record, and the first one has `false`. [`read`](crate::read) and
+    /// [`read_ascii`](crate::read_ascii) set the marks, [`write()`](crate::write()) and [`export`](crate::export) check
+    /// them, and refuse a list with a wrong one (23). A single record may have either, as [`pack`](crate::pack) and
+    /// [`unpack`](crate::unpack) do: copied out of its list, it still tells of the step there.
+    pub mark: bool,
 }
 
 impl Record {
     /// The numbers of the C boundary.
-    pub(crate) fn fields(&self) -> [u64; 7] {
+    pub(crate) fn fields(&self) -> [u64; 8] {
         [
             self.offset,
             self.bus.into(),
@@ -73,12 +80,13 @@ impl Record {
             self.id.into(),
             self.length.into(),
             u64::from_be_bytes(self.data),
+            self.mark.into(),
         ]
     }
 
     /// The record with the fields of a well formed one.
-    pub(crate) fn of_fields(fields: [u64; 7]) -> Record {
-        let [offset, bus, kind, extended, id, length, data] = fields;
+    pub(crate) fn of_fields(fields: [u64; 8]) -> Record {
+        let [offset, bus, kind, extended, id, length, data, mark] = fields;
         Record {
             offset,
             bus: bus as u8,
@@ -87,6 +95,7 @@ impl Record {
             id: id as u32,
             length: length as u8,
             data: data.to_be_bytes(),
+            mark: mark == 1,
         }
     }
 }

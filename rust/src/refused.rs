@@ -31,7 +31,8 @@ pub enum Reason {
     NoVersion = 21,
     /// The start is above [`MOST_START`](crate::MOST_START).
     StartTooLate = 22,
-    /// The first record that is not well formed.
+    /// The first record that is not well formed; in a list, also the first whose mark is wrong
+    /// ([`Record::mark`](crate::Record::mark)).
     NotWellFormed = 23,
     /// The first record that the version can't carry: 11 needs bus 0 and an offset of whole 100 microseconds, 12 needs
     /// bus 1 to 16.
@@ -138,7 +139,7 @@ impl fmt::Display for Refused {
             Reason::NoRecords => write!(f, "the bytes are not 20 for each record, up to {rows}"),
             Reason::NoVersion => write!(f, "the version is neither 11 nor 12"),
             Reason::StartTooLate => write!(f, "the start lies past day 99,999"),
-            Reason::NotWellFormed => write!(f, "record {place} is not well formed"),
+            Reason::NotWellFormed => write!(f, "record {place} is not well formed, or its mark is wrong"),
             Reason::NotCarried => write!(f, "the version can't carry record {place}"),
             Reason::NoRoom => write!(f, "the output is too short"),
             Reason::WrongFirstNumber => write!(f, "the first number is 0 with records or not 0 without, or the last row's would be above {rows}"),

@@ -23,10 +23,10 @@ const ABOVE: [u64; 9] = [
 
 /// A data frame, received, with a standard ID and no data.
 fn packed(bus: u64) -> [u8; RECORD] {
-    packed_as([0, bus, 0, 0, 0x123, 0, 0])
+    packed_as([0, bus, 0, 0, 0x123, 0, 0, 0])
 }
 
-fn packed_as(fields: [u64; 7]) -> [u8; RECORD] {
+fn packed_as(fields: [u64; 8]) -> [u8; RECORD] {
     let mut record = [0xEE; RECORD];
     assert_eq!(numbers::pack(&fields, &mut record), [0, 0], "{fields:?}");
     record
@@ -77,7 +77,7 @@ fn every_channel_with_every_bus() {
             let shown = if bus == 0 { channel } else { bus };
             exports(channel, &packed(bus), &line(shown));
             // Sent, with an extended ID and all data bytes.
-            let fields = [0, bus, 1, 1, 0x18AB_0001, 8, 0x0011_2233_4455_6677];
+            let fields = [0, bus, 1, 1, 0x18AB_0001, 8, 0x0011_2233_4455_6677, 0];
             let long = format!("29.02.2000 12:00:00.0000 CANExt #{shown} | EXTENDED Tx 18ab0001 8 00 11 22 33 44 55 66 77\r\n");
             exports(channel, &packed_as(fields), &long);
         }
@@ -121,7 +121,7 @@ fn the_room_is_that_of_the_channel() {
 
 #[test]
 fn channels_above_the_last() {
-    let remote = packed_as([0, 0, 2, 0, 0x124, 3, 0]);
+    let remote = packed_as([0, 0, 2, 0, 0x124, 3, 0, 0]);
     let malformed = [0xFF; RECORD];
     let lists: [&[u8]; 7] = [
         // No records, one with bus 0, one without, and one that gives no line.

@@ -517,6 +517,7 @@ fn after_the_last_row() {
         id: 0,
         length: 0,
         data: [0; 8],
+        mark: false,
     };
     let mut packed = [0; RECORD];
     pack(&record, &mut packed).unwrap();

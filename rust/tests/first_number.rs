@@ -30,6 +30,7 @@ fn records(count: usize) -> Vec<u8> {
         id: 0x7FF,
         length: 0,
         data: [0; 8],
+        mark: false,
     };
     let mut packed = [0; RECORD];
     pack(&frame, &mut packed).unwrap();

@@ -1,4 +1,5 @@
-//! The constants of `include/bushingowl.h` are those of this crate, and so are the lengths of its answers.
+//! The constants of `include/bushingowl.h` are those of this crate, and so are the lengths of its answers and the bits of a
+//! record.
 
 use bushingowl::{
     numbers, Kind, Reason, RowReason, CHANNEL_AS_BENCH, CHANNEL_AS_BUS, LEAST_LINE, LEAST_ROW,
@@ -15,6 +16,13 @@ fn defined(name: &str) -> &'static str {
     let value = lines.next().unwrap_or_else(|| panic!("no {name}"));
     assert_eq!(lines.next(), None, "{name} twice");
     value
+}
+
+/// What the header declares as parameters of this function.
+fn parameters(function: &str) -> &'static str {
+    let start = format!("\nvoid bo_{function}(");
+    let (_, behind) = HEADER.split_once(&start).unwrap();
+    behind.split_once(");").unwrap().0
 }
 
 #[test]
@@ -101,14 +109,37 @@ fn answers_have_as_many_numbers() {
         ("export", numbers::export(0, 0, b"", &mut []).len()),
         ("read_ascii", numbers::read_ascii(b"", &mut []).len()),
         ("unpack", numbers::unpack(b"").len()),
-        ("pack", numbers::pack(&[0; 7], &mut []).len()),
+        ("pack", numbers::pack(&[0; 8], &mut []).len()),
         ("explain", numbers::explain(b"", 0, 0).len()),
     ];
     for (name, length) in lengths {
-        let start = format!("\nvoid bo_{name}(");
-        let (_, behind) = HEADER.split_once(&start).unwrap();
-        let (parameters, _) = behind.split_once(");").unwrap();
         let answer = format!("uint64_t answer[{length}]");
-        assert!(parameters.ends_with(&answer), "{name}");
+        assert!(parameters(name).ends_with(&answer), "{name}");
     }
+}
+
+/// How many bits the header gives to each field of a record, and to the zeros behind them.
+fn widths() -> Vec<usize> {
+    let (_, table) = HEADER.split_once(" *   bits  field\n").unwrap();
+    let (table, _) = table.split_once(" *\n").unwrap();
+    let widths = table
+        .lines()
+        .filter_map(|line| line.split_whitespace().nth(1));
+    widths.map(|bits| bits.parse().unwrap()).collect()
+}
+
+#[test]
+fn a_record_has_the_same_bits() {
+    let fields = [1 << 47, 16, 1, 1, 0x1234_5678, 8, 0x0123_4567_89AB_CDEF, 1];
+    let given = format!("const uint64_t fields[{}], ", fields.len());
+    assert!(parameters("pack").starts_with(&given));
+    let mut record = [0xEE; RECORD];
+    assert_eq!(numbers::pack(&fields, &mut record), [0, 0]);
+    assert_eq!(numbers::unpack(&record)[2..], fields);
+    // Each value with as many digits as it has bits, behind them zeros.
+    assert_eq!(widths().len(), fields.len() + 1);
+    let values = fields.into_iter().chain([0]).zip(widths());
+    let bits = values.map(|(value, bits)| format!("{value:0bits$b}"));
+    let packed = record.map(|byte| format!("{byte:08b}"));
+    assert_eq!(bits.collect::<String>(), packed.concat());
 }

@@ -15,6 +15,7 @@ const LONGEST: Record = Record {
     id: 0x1FFF_FFFF,
     length: 8,
     data: [0, 0x11, 0x22, 0x33, 0x44, 0x55, 0x66, 0x77],
+    mark: false,
 };
 
 fn packs(record: &Record) -> bool {
@@ -28,7 +29,9 @@ fn packs(record: &Record) -> bool {
 
 #[test]
 fn of_a_record() {
-    assert!(packs(&LONGEST));
+    for mark in [false, true] {
+        assert!(packs(&Record { mark, ..LONGEST }));
+    }
     let wrong = [
         Record {
             offset: MOST_OFFSET + 1,

@@ -23,8 +23,8 @@ fn text(version: u32, offsets: &[&str]) -> String {
 }
 
 /// The fields of such a row.
-fn fields(bus: u64, offset: u64) -> [u64; 7] {
-    [offset, bus, 0, 0, 0x123, 0, 0]
+fn fields(bus: u64, offset: u64) -> [u64; 8] {
+    [offset, bus, 0, 0, 0x123, 0, 0, 0]
 }
 
 fn packed(bus: u64, offset: u64) -> [u8; RECORD] {

@@ -101,6 +101,7 @@ fn a_record_is_unpacked_and_packed() {
         id: 0x123,
         length: 2,
         data: [0x0A, 0xFF, 0, 0, 0, 0, 0, 0],
+        mark: false,
     };
     assert_eq!(unpack(&FIRST), Ok(record));
     let mut packed = [0xEE; 24];
@@ -119,6 +120,7 @@ fn the_other_rows_keep_their_fields() {
         id: 0x18AB_0001,
         length: 0,
         data: [0; 8],
+        mark: false,
     };
     assert_eq!(unpack(&records[20..40]), Ok(second));
     let third = Record {
@@ -129,6 +131,8 @@ fn the_other_rows_keep_their_fields() {
         id: 0x124,
         length: 3,
         data: [0; 8],
+        // Its offset is a microsecond below that of the second row.
+        mark: true,
     };
     assert_eq!(unpack(&records[40..]), Ok(third));
 }

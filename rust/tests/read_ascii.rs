@@ -20,6 +20,7 @@ const FIRST: Record = Record {
     id: 0x123,
     length: 2,
     data: [0x0A, 0xFF, 0, 0, 0, 0, 0, 0],
+    mark: false,
 };
 const SECOND: Record = Record {
     offset: 1_500_200,
@@ -29,15 +30,20 @@ const SECOND: Record = Record {
     id: 0x18AB_0001,
     length: 0,
     data: [0; 8],
+    mark: false,
 };
 const FIRST_PACKED: [u8; RECORD] = [
     0, 0, 0, 0, 0, 0, 8, 0, 0, 4, 0x8C, 0x82, 0xBF, 0xC0, 0, 0, 0, 0, 0, 0,
 ];
 
+/// The list of these records, each with the mark that it has there.
 fn packed(records: &[Record]) -> Vec<u8> {
     let mut all = vec![0; records.len() * RECORD];
+    let mut before = 0;
     for (record, out) in records.iter().zip(all.chunks_mut(RECORD)) {
-        pack(record, out).unwrap();
+        let mark = record.offset < before;
+        pack(&Record { mark, ..*record }, out).unwrap();
+        before = record.offset;
     }
     all
 }
@@ -792,6 +798,7 @@ fn records_there_and_back() {
                     id: next(if extended { 0x2000_0000 } else { 0x800 }) as u32,
                     length: length as u8,
                     data,
+                    mark: false,
                 }
             })
             .collect();

@@ -14,6 +14,7 @@ const FRAME: Record = Record {
     id: 0x7FF,
     length: 1,
     data: [0x0A, 0, 0, 0, 0, 0, 0, 0],
+    mark: false,
 };
 
 fn refused<T>(reason: Reason, place: u64) -> Result<T, Refused> {
@@ -206,9 +207,11 @@ fn with_zeros_for_all_other_numbers() {
     assert_eq!(numbers::write(12, 0, 1, &[], &mut []), [26, 0, 0]);
     assert_eq!(numbers::export(0, 0, &[0], &mut []), [20, 0, 0, 0, 0]);
     assert_eq!(numbers::export(0, 17, &[], &mut []), [35, 0, 0, 0, 0]);
-    assert_eq!(numbers::unpack(&[]), [20, 0, 0, 0, 0, 0, 0, 0, 0]);
-    assert_eq!(numbers::pack(&[u64::MAX; 7], &mut [0; 20]), [23, 1]);
-    assert_eq!(numbers::pack(&[0; 7], &mut []), [25, 0]);
+    assert_eq!(numbers::unpack(&[]), [20, 0, 0, 0, 0, 0, 0, 0, 0, 0]);
+    let answer = numbers::unpack(&[0xFF; RECORD]);
+    assert_eq!(answer, [23, 1, 0, 0, 0, 0, 0, 0, 0, 0]);
+    assert_eq!(numbers::pack(&[u64::MAX; 8], &mut [0; 20]), [23, 1]);
+    assert_eq!(numbers::pack(&[0; 8], &mut []), [25, 0]);
     // A line before the one that is wrong, and a good line without room.
     let line = "29.02.2000 12:00:00.0000 CAN #1 | Rx 123 0\n";
     let answer = numbers::read_ascii(format!("{line}x\n").as_bytes(), &mut [0; 40]);
@@ -243,7 +246,11 @@ fn in_words() {
         ),
         (21, 0, "the version is neither 11 nor 12 (refusal 21)"),
         (22, 0, "the start lies past day 99,999 (refusal 22)"),
-        (23, 8, "record 8 is not well formed (refusal 23)"),
+        (
+            23,
+            8,
+            "record 8 is not well formed, or its mark is wrong (refusal 23)",
+        ),
         (24, 8, "the version can't carry record 8 (refusal 24)"),
         (25, 0, "the output is too short (refusal 25)"),
         (
