@@ -19,7 +19,8 @@
 //! [`Read::write_to_vec`] pass it on from one to the other.
 //!
 //! In a list each record has a mark that tells whether its offset is below that of the record before it
-//! ([`Record::mark`]). [`read`] and [`read_ascii`] set the marks, and [`write()`] and [`export`] check them.
+//! ([`Record::mark`]). [`read`] and [`read_ascii`] set the marks, and [`write()`] and [`export`] check them. Who makes a
+//! list of copied records, some of them or in another order, sets them anew by [`mark_steps`].
 //!
 //! A line of Telemotive ASCII has a channel, 0 to [`MOST_CHANNEL`]. Bus 1 to 16 is exported as the channel of its number,
 //! and bus 0, which means none, as the channel that the caller gives: [`CHANNEL_AS_BENCH`], or another one to tell two
@@ -41,12 +42,14 @@
 mod boundary;
 mod column;
 mod explain;
+mod marks;
 pub mod numbers;
 mod record;
 mod refused;
 
 pub use column::Column;
 pub use explain::{explain, explain_refusal, Explanation, RowExplanation, RowFault, RowReason};
+pub use marks::mark_steps;
 pub use record::{Kind, Record};
 pub use refused::{Reason, Refused};
 

@@ -66,6 +66,8 @@ pub struct Record {
     /// [`read_ascii`](crate::read_ascii) set the marks, [`write()`](crate::write()) and [`export`](crate::export) check
     /// them, and refuse a list with a wrong one (23). A single record may have either, as [`pack`](crate::pack) and
     /// [`unpack`](crate::unpack) do: copied out of its list, it still tells of the step there.
+    ///
+    /// In a new list of copied records, some of them or in another order, [`mark_steps`](crate::mark_steps) sets it.
     pub mark: bool,
 }
 
