@@ -157,10 +157,11 @@ for family in open(sys.argv[1], encoding='ascii').read().split('\n'):
         lines.append(shown(fill(line, n, '%')) + ' -> ' + answer(fill(line, n, plain(given, n))))
 
 # The paper's small trace, its limits, the errors that look right, what Order 1 says of a line, Order 3 of first numbers, Order 4 of lines that are read back,
-# Order 5 of offsets, and Order 6 of the channel for bus 0: how these lines begin. The answers are the papers'; where they print none, as for the start near a half
-# (3,160,952,640,065.49984 before rounding), for the bits of a record, for the fields of Order 1, for the bytes of Order 3, for the starts and offsets of Order 4,
-# for the rows, bits and stamps at the limit of Order 5 (which is twelve F, and 55 past a multiple of 100; 10^14 is 5AF3107A4000) and for the lines of Order 6 and
-# their lengths (44 bytes for a standard ID with one digit of channel and no data), they were worked out by hand.
+# Order 5 of offsets, Order 6 of the channel for bus 0, and Order 7 of marks: how these lines begin. The answers are the papers'; where they print none, as for the
+# start near a half (3,160,952,640,065.49984 before rounding), for the bits of a record, for the fields of Order 1, for the bytes of Order 3, for the starts and
+# offsets of Order 4, for the rows, bits and stamps at the limit of Order 5 (which is twelve F, and 55 past a multiple of 100; 10^14 is 5AF3107A4000), for the lines
+# of Order 6 and their lengths (44 bytes for a standard ID with one digit of channel and no data), and for the records of Order 7, whose last byte has 20 where they
+# step back, they were worked out by hand.
 
 PAPER = r'''
 read room 100 small trace: %1) 0.000 1 Rx 0123 2 0A FF\r\n2) 1500.250 2 Tx 18AB0001 0\r\n3) 1500.249 1 Rx 0124 3 RTR\r\n -> 0 0 12 3160987200000 3 3 1 000000000000080000048c82bfc0000000000000
@@ -470,6 +471,54 @@ convert records 72800 page 313040 version 1.1: ;$FILEVERSION=1.1\r\n;$STARTTIME=
 convert records 72800 page 313040 version 1.1, both forms, both ways: ;$FILEVERSION=1.1\r\n;$STARTTIME=36585.5\r\n1) 0.0 Rx 0123 2 0A FF\r\n2) 0.1 Tx 07FF 0\r\n3) 0.2 Rx 00000123 0\r\n4) 0.3 Tx 1FFFFFFF 1 AB\r\n5) 0.4 Rx 0124 3 RTR\r\n -> 219 29.02.2000 12:00:00.0000 CAN #1 | Rx 123 2 0a ff\r\n29.02.2000 12:00:00.0001 CAN #1 | Tx 7ff 0\r\n29.02.2000 12:00:00.0002 CANExt #1 | EXTENDED Rx 00000123 0\r\n29.02.2000 12:00:00.0003 CANExt #1 | EXTENDED Tx 1fffffff 1 ab\r\n untouched
 convert records 20 page 43 version 1.1: ;$FILEVERSION=1.1\r\n;$STARTTIME=36585.5\r\n1) 0.0 Rx 0123 0\r\n -> none untouched
 convert records 20 page 44 version 1.1: ;$FILEVERSION=1.1\r\n;$STARTTIME=36585.5\r\n1) 0.0 Rx 0123 0\r\n -> 44 29.02.2000 12:00:00.0000 CAN #1 | Rx 123 0\r\n untouched
+read room 100 small trace: %1) 0.000 1 Rx 0123 2 0A FF\r\n2) 1500.250 2 Tx 18AB0001 0\r\n3) 1500.249 1 Rx 0124 3 RTR\r\n -> 0 0 12 3160987200000 3 3 1 000000000000080000048c82bfc000000000000000000016e45a11e2ac000400000000000000000000000016e4590a00000490c00000000000000020 untouched
+pack % mark 1 room 20 -> 0 0 000000000000080000048c82bfc0000000000020 untouched
+pack % mark 1 room 19 -> 25 0 untouched
+pack % mark 2 room 19 -> 23 1 untouched
+pack % mark 32 room 21 -> 23 1 untouched
+pack % mark 4294967297 room 21 -> 23 1 untouched
+pack % mark x8000000000000001 room 21 -> 23 1 untouched
+pack offset 281474976710655 bus 16 kind 1 extended 1 id x1FFFFFFF length 8 data xFFFFFFFFFFFFFFFF mark 1 room 21 -> 0 0 ffffffffffff81fffffffe3fffffffffffffffe0 untouched
+unpack offset 0 bus 1 kind 0 extended 0 id x123 length 2 data x0AFF000000000000 last 0 bytes 20 -> 000000000000080000048c82bfc0000000000000 0 0 0 1 0 0 291 2 0aff000000000000 0
+unpack offset 0 bus 1 kind 0 extended 0 id x123 length 2 data x0AFF000000000000 last 32 bytes 20 -> 000000000000080000048c82bfc0000000000020 0 0 0 1 0 0 291 2 0aff000000000000 1
+unpack offset 0 bus 1 kind 0 extended 0 id x123 length 2 data x0AFF000000000000 last 16 bytes 20 -> 000000000000080000048c82bfc0000000000010 23 1
+unpack offset 0 bus 1 kind 0 extended 0 id x123 length 2 data x0AFF000000000000 last 33 bytes 20 -> 000000000000080000048c82bfc0000000000021 23 1
+unpack % last 32 bytes 21 -> 000000000000080000048c82bfc0000000000020ee 20 0
+write version 12 start 0 first 1 bytes 80 room 300: 5 1;3%;5 1;4% -> 0 0 133 ;$FILEVERSION=1.2\r\n;$STARTTIME=0.0000000000\r\n1) 0.005 1 Rx 0000 0\r\n2) 0.003 1 Rx 0000 0\r\n3) 0.005 1 Rx 0000 0\r\n4) 0.004 1 Rx 0000 0\r\n untouched 0 0 12 0 4 2 1 0000000000050800000000000000000000000000000000000003080000000000000000000000002000000000000508000000000000000000000000000000000000040800000000000000000000000020 untouched
+write version 12 start 0 first 1 bytes 80 room 300: 5 1;3%;5 1;4 1 -> 23 4 untouched
+write version 12 start 0 first 1 bytes 80 room 300: 5 1;3%;5%;4% -> 23 3 untouched
+write version 12 start 0 first 1 bytes 80 room 300: 5 1;3 1;5 1;4% -> 23 2 untouched
+write version 12 start 0 first 1 bytes 80 room 300: 5%;3%;5 1;4 1 -> 23 1 untouched
+write version 12 start 0 first 1 bytes 80 room 300: 5 1;5 1;5 1;5 1 -> 0 0 133 ;$FILEVERSION=1.2
+write version 12 start 0 first 1 bytes 80 room 300: 5 1;5 1;5 1;5% -> 23 4 untouched
+write version 12 start 0 first 1 bytes 80 room 300: 5 1;3%;4%;2% -> 23 3 untouched
+write version 12 start 0 first 1 bytes 80 room 300: 5 1;8 1;7 1;6 1 -> 23 3 untouched
+write version 12 start 0 first 1 bytes 20 room 300: 0% -> 23 1 untouched
+write version 12 start 0 first 1 bytes 40 room 300: 281474976710654 1;281474976710653% -> 0 0 111 ;$FILEVERSION=1.2
+write version 12 start 0 first 1 bytes 40 room 300: 281474976710654 1;281474976710653 1 -> 23 2 untouched
+write version 12 start 0 first 1 bytes 80 room 300 own 2: 5 1;5 1;5%;5 1|5 17 -> 23 2 untouched
+write version 12 start 0 first 1 bytes 80 room 300 own 4: 5 1;5 1;5%;5 1|5 17 -> 23 3 untouched
+write version 12 start 0 first 1 bytes 80 room 300 own 1: 5 1;5 1;5 17;5 1|5% -> 23 1 untouched
+write version 12 start 0 first 1 bytes 80 room 300 own 4: 5 1;5 1;5 17;5 1|5% -> 23 3 untouched
+write version 12 start 8639999999999 first 0 bytes 40 room 0: 5 0;4 0 -> 26 0 untouched
+write version 12 start 8639999999999 first 1 bytes 40 room 0: 5 0;4 0 -> 23 2 untouched
+write version 12 start 8639999999999 first 1 bytes 40 room 0: 5 0;4 0 0 0 0 0 0 32 -> 24 1 untouched
+write version 11 start 0 first 1 bytes 40 room 80: 500 0;400 0 0 0 0 0 0 32 -> 25 0 untouched
+write version 11 start 0 first 1 bytes 40 room 81: 500 0;400 0 0 0 0 0 0 32 -> 0 0 81 ;$FILEVERSION=1.1\r\n;$STARTTIME=0.0000000000\r\n1) 0.5 Rx 0000 0\r\n2) 0.4 Rx 0000 0\r\n untouched 0 0 11 0 2 2 1 0000000001f400000000000000000000000000000000000001900000000000000000000000000020 untouched
+export start 0 channel 1 bytes 80 room 300: 5 1;3%;5 1;4% -> 0 0 176 4 0 30.12.1899 00:00:00.0000 CAN #1 | Rx 000 0\r\n
+export start 0 channel 1 bytes 80 room 300: 5 1;3%;5 1;4 1 -> 23 4 untouched
+export start 0 channel 1 bytes 80 room 300: 5 1;3 1;5 1;4% -> 23 2 untouched
+export start 0 channel 1 bytes 80 room 300: 5%;3%;5 1;4 1 -> 23 1 untouched
+export start 0 channel 1 bytes 80 room 300: 5 1;8 1;7 1;6 1 -> 23 3 untouched
+export start 0 channel 1 bytes 60 room 300: 5 1;9 1 2 0 x124 3;7% -> 0 0 88 2 1 30.12.1899
+export start 0 channel 1 bytes 60 room 300: 5 1;9 1 2 0 x124 3;7 1 -> 23 3 untouched
+export start 0 channel 1 bytes 80 room 300 own 4: 5 1;5 1;5%;5 1|5 17 -> 23 3 untouched
+export start 8639999999999 channel 17 bytes 40 room 0: 5 0;4 0 -> 35 0 untouched
+export start 8639999999999 channel 16 bytes 40 room 0: 5 0;4 0 -> 23 2 untouched
+read room 100 steps: ;$FILEVERSION=1.2\r\n;$STARTTIME=36585.5\r\n1) 5.000%2) 3.000%3) 5.000%4) 4.000% -> 0 0 12 3160987200000 4 2 1 000000001388080000048c000000000000000000000000000bb8080000048c000000000000000020000000001388080000048c000000000000000000000000000fa0080000048c000000000000000020 untouched
+ascii room 100 steps: 29.02.2000 12:00:00.0015%13%15%14 CAN #1 | Rx 123 0\n -> 0 0 3160987200001 4 0000000001f4080000048c00000000000000000000000000012c080000048c0000000000000000200000000001f4080000048c000000000000000000000000000190080000048c000000000000000020 untouched
+again room 300 channel 1 small steps: ;$FILEVERSION=1.2\r\n;$STARTTIME=36585.5\r\n1) 0.150%2) 0.120%3) 0.119% -> 0 0 115 ;$FILEVERSION=1.2\r\n;$STARTTIME=36585.5000000000\r\n1) 0.150 1 Rx 0123 0\r\n2) 0.120 1 Rx 0123 0\r\n3) 0.119 1 Rx 0123 0\r\n untouched 0 0 12 3160987200000 3 2 1 000000000096080000048c000000000000000000000000000078080000048c000000000000000020000000000077080000048c000000000000000020 untouched 0 0 132 3 0 29.02.2000 12:00:00.0001 CAN #1 | Rx 123 0\r\n29.02.2000 12:00:00.0001 CAN #1 | Rx 123 0\r\n29.02.2000 12:00:00.0001 CAN #1 | Rx 123 0\r\n untouched
+return room 300 channel 0 steps: 29.02.2000 12:00:00.0015%13%14 CAN #1 | Rx 123 0\n -> 0 0 132 3 0 29.02.2000 12:00:00.0015 CAN #1 | Rx 123 0\r\n29.02.2000 12:00:00.0013 CAN #1 | Rx 123 0\r\n29.02.2000 12:00:00.0014 CAN #1 | Rx 123 0\r\n untouched 0 0 3160987200001 3 0000000001f4080000048c00000000000000000000000000012c080000048c000000000000000020000000000190080000048c000000000000000000 untouched
 '''
 LONG = [r'read room 100 comment with %d x: %%;%s\r\n -> %s' % (x, 'x' * x, said) for x, said in ((249, '0 0 12'), (250, '3 3 0 0 0 0 0'))]
 LONG += ['explain version 12 number 1: 1) 0.000 1 Rx 0123 %d%s -> %s' % (n, ' ' * 232, said) for n, said in ((0, '30 0 0 0'), (9, '0 0 1 6'))]
