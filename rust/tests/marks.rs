@@ -2,8 +2,8 @@
 //! list of copied records.
 
 use bushingowl::{
-    mark_steps, numbers, pack, read_ascii_to_vec, read_to_vec, unpack, write_to_vec, Kind,
-    ReadAscii, Reason, Record, Refused, CHANNEL_AS_BUS, MOST_OFFSET, MOST_ROWS, MOST_START, RECORD,
+    mark_steps, numbers, pack, read_ascii_to_vec, read_to_vec, unpack, write_to_vec, ReadAscii,
+    Reason, Record, Refused, CHANNEL_AS_BUS, MOST_OFFSET, MOST_ROWS, MOST_START, RECORD,
 };
 
 /// 29 February 2000, noon.
@@ -306,13 +306,7 @@ fn of_as_many_records_as_there_can_be() {
 fn single_records_may_have_either() {
     let frame = Record {
         offset: 1_500_250,
-        bus: 1,
-        kind: Kind::DataReceived,
-        extended: false,
-        id: 0x123,
-        length: 2,
-        data: [0x0A, 0xFF, 0, 0, 0, 0, 0, 0],
-        mark: false,
+        ..unpack(&FIRST).unwrap()
     };
     for mark in [false, true] {
         let frame = Record { mark, ..frame };

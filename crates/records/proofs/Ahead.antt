@@ -3,13 +3,13 @@ use Prim.Native.Nat.{ℕ, _+_, _%_, _≤_, _<_}
 use mathlib.Core.Path.{_≡_, refl, ap, sym, _∙_}
 use mathlib.Core.List.{List, [], _∷_, _++_, append-assoc, append-nil}
 use native.Mathlib.Omega.{arith}
-use lib.ListN.{length, take, drop, length-drop}
+use lib.ListN.{length, drop, length-drop}
 use lib.Seq.{drop-drop}
 use Rattle.record.specs.declared.Record.{Record}
 use Rattle.record.specs.Record.{WellFormed}
 use Rattle.record.specs.inner.PackedAt.{PackedAt}
 use Rattle.record.proofs.OneRecord.{one-record}
-use Rattle.records.specs.Records.{lastOffset, packedAfter, packed, Each, more, PacksAll}
+use Rattle.records.specs.Records.{lastOffset, packedAfter, Each, more, PacksAll}
 use Rattle.records.proofs.Lists.{each-tail}
 use Rattle.records.proofs.Packing.{last-more, marked-packs, packed-length, after-length, first-packed, rest-packed}
 use Rattle.records.proofs.Records.{packs-all-one}
