@@ -23,7 +23,7 @@ fieldsOf r = r .offset ∷ r .bus ∷ r .kind ∷ r .extended ∷ r .id ∷ r .l
 
 -- Number, place, the seven fields and the mark.
 abbrev pub recordNumbers : Record → ℕ → List ℕ
-recordNumbers r mark = 0 ∷ 0 ∷ fieldsOf r ++ (mark ∷ [])
+recordNumbers r mark = 0 ∷ 0 ∷ (fieldsOf r ++ (mark ∷ []))
 
 -- A refusal gives number and place, and zeros for all else.
 abbrev pub refusalNumbers : ℕ → ℕ → List ℕ
