@@ -4,7 +4,7 @@ use super::{shown, Difference};
 use crate::boundary;
 use crate::expert;
 use crate::inputs::random::Random;
-use crate::inputs::records::Fields;
+use crate::inputs::records::Marked;
 use bushingowl::{numbers, RECORD};
 use std::cell::Cell;
 use std::hint::black_box;
@@ -98,7 +98,7 @@ impl Both {
         })
     }
 
-    pub fn unpack(&mut self, record: &[u8]) -> Result<[u64; 9], Difference> {
+    pub fn unpack(&mut self, record: &[u8]) -> Result<[u64; 10], Difference> {
         self.run(
             record,
             0,
@@ -112,7 +112,7 @@ impl Both {
         })
     }
 
-    pub fn pack(&mut self, fields: &Fields, room: usize) -> Result<[u64; 2], Difference> {
+    pub fn pack(&mut self, fields: &Marked, room: usize) -> Result<[u64; 2], Difference> {
         let unchanged = Cell::new(true);
         let library = |_: &[u8], out: &mut [u8]| {
             let mut lent = *fields;

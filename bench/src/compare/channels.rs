@@ -4,7 +4,7 @@ use super::runs::Runs;
 use super::Checked;
 use crate::inputs::ascii::{AsciiText, Line};
 use crate::inputs::channels::channel_of;
-use crate::inputs::records::packed;
+use crate::inputs::records::packed_all;
 use crate::inputs::{LAST_CHANNEL, LAST_START};
 use bushingowl::MOST_LINE;
 use std::collections::BTreeSet;
@@ -88,18 +88,19 @@ fn export(
     channel: u64,
     frames: &[(u64, Frame)],
 ) -> Checked {
-    let (mut records, mut back) = (Vec::new(), Vec::new());
+    let (mut rows, mut back) = (Vec::new(), Vec::new());
     let (mut text, mut lines) = (String::new(), 0);
     for &(bus, ([kind, extended, id, length, data], line)) in frames {
-        let on = |bus| packed(&[0, bus, kind, extended, id, length, data]);
-        records.extend(on(bus));
+        let on = |bus| [0, bus, kind, extended, id, length, data];
+        rows.push(on(bus));
         if let Some([before, behind]) = line {
             let channel = channel_of(bus, channel);
             text += &format!("{stamp} {before}{channel}{behind}");
             lines += 1;
-            back.extend(on(channel));
+            back.push(on(channel));
         }
     }
+    let mut records = packed_all(&rows);
     let no_bus = frames.iter().position(|&(bus, _)| bus > LAST_CHANNEL);
     let needed = text.len();
     let left_out = frames.len() as u64 - lines;
@@ -119,7 +120,7 @@ fn export(
     }
     if answer[0] == 0 {
         // What is read back is on the bus of its channel.
-        let known = ([0, 0, start * lines.min(1), lines], back);
+        let known = ([0, 0, start * lines.min(1), lines], packed_all(&back));
         runs.read_ascii("ascii: channels", text.as_bytes(), Some(&known))?;
     }
     let known = ([20, 0, 0, 0, 0], Vec::new());

@@ -7,7 +7,7 @@ use crate::inputs::channels::any_channel;
 use crate::inputs::damage::{damage, damage_records};
 use crate::inputs::numbers::any_first;
 use crate::inputs::random::Random;
-use crate::inputs::records::{changed, packed, packed_all, record, Fields};
+use crate::inputs::records::{changed, marked, packed, packed_all, record, Fields};
 use crate::inputs::spelling::Spelled;
 use crate::inputs::{noise, LAST_START};
 
@@ -111,15 +111,15 @@ fn export(runs: &mut Runs) -> Checked {
 fn list(random: &mut Random, versions: &[u64]) -> (bool, Vec<u8>) {
     let most = random.pick(&[3, 3, 10, 10, 50]);
     let count = random.below(most);
-    let rows: Vec<_> = (0..count).map(|_| of_version(random, versions)).collect();
+    let mut rows: Vec<_> = (0..count).map(|_| of_version(random, versions)).collect();
     let mut records = packed_all(&rows);
     match random.below(6) {
         0..=2 => return (true, records),
         3 => damage_records(random, &mut records),
         4 => {
             let version = random.pick(versions);
-            records.extend(packed(&record(random, 23 - version)));
-            records.extend(packed(&record(random, version)));
+            rows.extend([23 - version, version].map(|version| record(random, version)));
+            records = packed_all(&rows);
             if random.once_in(2) {
                 damage_records(random, &mut records);
             }
@@ -145,7 +145,8 @@ fn start(random: &mut Random) -> u64 {
 fn unpack(runs: &mut Runs) -> Checked {
     let random = &mut runs.random;
     let version = random.pick(&[11, 12]);
-    let mut record = packed(&record(random, version)).to_vec();
+    let fields = marked(&record(random, version), random.pick(&[0, 1]));
+    let mut record = packed(&fields).to_vec();
     let mut kind = "unpack: other record";
     match random.below(5) {
         0 => kind = "unpack: good record",
@@ -163,7 +164,7 @@ fn unpack(runs: &mut Runs) -> Checked {
 fn pack(runs: &mut Runs) -> Checked {
     let random = &mut runs.random;
     let version = random.pick(&[11, 12]);
-    let mut fields = record(random, version);
+    let mut fields = marked(&record(random, version), random.pick(&[0, 1]));
     let mut kind = "pack: good fields";
     if !random.once_in(3) {
         kind = "pack: other fields";

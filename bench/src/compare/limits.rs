@@ -22,7 +22,7 @@ pub fn limits(runs: &mut Runs) -> Checked {
         let from_two = spelled(runs, version, rows[1..].to_vec(), 2);
         let most = spelled(runs, version, rows, 1);
         let none = spelled(runs, version, Vec::new(), 0);
-        lists(runs, version as u32, &most.records())?;
+        lists(runs, version as u32, &most.records(), &from_two.records())?;
         rows_past_the_last(runs, &most, &["1000000", "999999", "000000", "0", "1"])?;
         rows_past_the_last(runs, &from_two, &["1000000"])?;
         texts(runs, most)?;
@@ -39,7 +39,7 @@ pub fn spelled(runs: &mut Runs, version: u64, rows: Vec<Fields>, first: u64) -> 
 
 /// As many records as there may be, one byte more, and one record more. They can't be numbered from any number but 1 on; one fewer can
 /// from 2 on.
-fn lists(runs: &mut Runs, version: u32, records: &[u8]) -> Checked {
+fn lists(runs: &mut Runs, version: u32, records: &[u8], one_fewer: &[u8]) -> Checked {
     for more in [0, 1, 20] {
         let number = if more == 0 { 0 } else { 20 };
         let list = [records, &vec![0; more]].concat();
@@ -51,8 +51,12 @@ fn lists(runs: &mut Runs, version: u32, records: &[u8]) -> Checked {
             expect("records exported", number, 0, &exported)?;
         }
     }
-    for (first, left_out, number) in [(0, 0, 26), (2, 0, 26), (2, 1, 0), (3, 1, 26)] {
-        let list = &records[20 * left_out..];
+    for (first, list, number) in [
+        (0, records, 26),
+        (2, records, 26),
+        (2, one_fewer, 0),
+        (3, one_fewer, 26),
+    ] {
         let written = runs.write(KIND, version, LAST_START, first, list)?;
         expect("records written from a number on", number, 0, &written)?;
     }

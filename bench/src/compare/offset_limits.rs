@@ -6,7 +6,7 @@ use super::runs::Runs;
 use super::{Checked, Difference};
 use crate::inputs::ascii::Line;
 use crate::inputs::channels::good_channel;
-use crate::inputs::records::{packed, Fields};
+use crate::inputs::records::{packed, packed_all, Fields};
 use crate::inputs::style::offset_text;
 use crate::inputs::{LAST_NUMBER, LAST_OFFSET, LAST_START};
 use std::collections::BTreeSet;
@@ -83,7 +83,8 @@ fn lines(runs: &mut Runs, version: u64, offset: u64) -> Checked {
 
 /// Fields with the offset are packed, and a record with as much of it as it holds is unpacked.
 fn fields(runs: &mut Runs, offset: u64) -> Checked {
-    let mut fields = [offset, 16, 3, 1, 0x1FFF_FFFF, 8, 0];
+    let mark = runs.random.pick(&[0, 1]);
+    let mut fields = [offset, 16, 3, 1, 0x1FFF_FFFF, 8, 0, mark];
     let [number, _] = runs.pack("pack: offset limits", &fields)?;
     let good = (number == 23) == (offset > LAST_OFFSET);
     must(good, "23 is given below the limit, or not past it", offset)?;
@@ -98,7 +99,7 @@ fn fields(runs: &mut Runs, offset: u64) -> Checked {
 fn written(runs: &mut Runs, offset: u64) -> Checked {
     let tenths = offset.is_multiple_of(100);
     for (version, bus, number) in [(11, 0, if tenths { 0 } else { 24 }), (12, 16, 0)] {
-        let record = packed(&frame(bus, offset));
+        let record = packed_all(&[frame(bus, offset)]);
         let kind = "write: offset limits";
         let answer = runs.write(kind, version, LAST_START, LAST_NUMBER, &record)?;
         expect("a record written", number, number.min(1), &answer)?;
@@ -110,7 +111,7 @@ fn written(runs: &mut Runs, offset: u64) -> Checked {
 fn exported(runs: &mut Runs, start: u64, offset: u64) -> Checked {
     for bus in [0, 16] {
         let channel = good_channel(&mut runs.random);
-        let record = packed(&frame(bus, offset));
+        let record = packed_all(&[frame(bus, offset)]);
         runs.export("export: offset limits", start, channel, &record, true)?;
     }
     Ok(())
@@ -130,9 +131,9 @@ fn ascii(runs: &mut Runs, start: u64, offset: u64) -> Checked {
 fn longest_row(runs: &mut Runs) -> Checked {
     let head = ";$FILEVERSION=1.2\r\n;$STARTTIME=99999.9999999884\r\n";
     let text = format!("{head}{LONGEST_ROW}\r\n");
-    let record = packed(&[LAST_OFFSET, 16, 1, 1, 0x1FFF_FFFF, 8, u64::MAX]);
+    let record = packed_all(&[[LAST_OFFSET, 16, 1, 1, 0x1FFF_FFFF, 8, u64::MAX]]);
     let answer = [0, 0, 12, LAST_START, 1, 0, LAST_NUMBER];
-    let known = Some((answer, &record as &[u8]));
+    let known = Some((answer, &*record));
     runs.read("read: offset limits", text.as_bytes(), known)?;
     Ok(())
 }

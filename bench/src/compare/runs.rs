@@ -6,7 +6,7 @@ use super::{shown, Difference};
 use crate::inputs::ascii::LEAST;
 use crate::inputs::channels::{any_channel, exported, refused, Exported};
 use crate::inputs::random::Random;
-use crate::inputs::records::Fields;
+use crate::inputs::records::Marked;
 use crate::inputs::{LAST_CHANNEL, LAST_NUMBER};
 use bushingowl::{explain_refusal, Reason, Refused, RowFault};
 use bushingowl::{CHANNEL_AS_BUS, LEAST_ROW, MOST_HEADER, MOST_LINE, MOST_ROW, RECORD};
@@ -215,7 +215,7 @@ impl Runs {
         Ok(())
     }
 
-    pub fn unpack(&mut self, kind: &'static str, record: &[u8]) -> Result<[u64; 9], Difference> {
+    pub fn unpack(&mut self, kind: &'static str, record: &[u8]) -> Result<[u64; 10], Difference> {
         let answer = self.both.unpack(record)?;
         self.tally.count(kind, answer[0]);
         if let [0, 0, fields @ ..] = answer {
@@ -228,7 +228,7 @@ impl Runs {
         Ok(answer)
     }
 
-    pub fn pack(&mut self, kind: &'static str, fields: &Fields) -> Result<[u64; 2], Difference> {
+    pub fn pack(&mut self, kind: &'static str, fields: &Marked) -> Result<[u64; 2], Difference> {
         let room = self.random.pick(&[RECORD, RECORD, RECORD, 0, 19, 21, 100]);
         let answer = self.both.pack(fields, room)?;
         self.tally.count(kind, answer[0]);

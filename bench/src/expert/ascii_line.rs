@@ -26,8 +26,8 @@ impl Second {
     }
 }
 
-/// Reads the line at the beginning of a window. Gives its stamp in steps of 100 microseconds since 30 December 1899, its fields, of which the
-/// offset is not set, and the bytes it has with its end. `JUDGED` says that the line was taken before.
+/// Reads the line at the beginning of a window. Gives its stamp in steps of 100 microseconds since 30 December 1899, its fields, of which
+/// offset and mark are not set, and the bytes it has with its end. `JUDGED` says that the line was taken before.
 #[inline(always)]
 pub fn line<const JUDGED: bool>(
     window: &Window,
@@ -67,6 +67,7 @@ pub fn line<const JUDGED: bool>(
         id,
         length,
         data,
+        mark: 0,
     };
     Some((stamp, fields, cursor.at()))
 }

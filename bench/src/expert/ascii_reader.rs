@@ -2,6 +2,7 @@
 
 use super::ascii_line::{line, Second};
 use super::cursor::Window;
+use super::marks::Marks;
 use super::reader::{padded, LONGEST_TEXT};
 use super::record::{Fields, LAST_OFFSET};
 use super::{Refusal, RECORD};
@@ -37,8 +38,10 @@ fn read_or_refuse(text: &[u8], out: &mut [u8]) -> Result<[u64; 2], Refusal> {
     let start = first.unwrap_or(0);
     let out = out.get_mut(..lines as usize * RECORD).ok_or((8, 0))?;
     let mut records = out.as_chunks_mut().0.iter_mut();
+    let mut marks = Marks::default();
     each_line::<true>(text, |stamp, mut fields| {
         fields.offset = (stamp - start * STEPS) * STEP;
+        fields.mark = marks.next(fields.offset);
         if let Some(record) = records.next() {
             fields.store(record);
         }

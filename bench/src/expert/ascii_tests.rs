@@ -38,8 +38,18 @@ fn offsets(records: &[u8]) -> Vec<u64> {
 
 /// The bus of each record.
 fn buses(records: &[u8]) -> Vec<u64> {
+    unpacked(records, 3)
+}
+
+/// The mark of each record.
+fn marks(records: &[u8]) -> Vec<u64> {
+    unpacked(records, 9)
+}
+
+/// One of the numbers that unpacking gives, of each record.
+fn unpacked(records: &[u8], number: usize) -> Vec<u64> {
     let records = records.chunks(RECORD);
-    records.map(|record| unpack(record)[3]).collect()
+    records.map(|record| unpack(record)[number]).collect()
 }
 
 /// The lines of records that all give one.
@@ -404,6 +414,7 @@ fn stamps_around_the_start() {
     ]));
     assert_eq!(answer_, [0, 0, START + 1, 5]);
     assert_eq!(offsets(&records), [900, 0, 900, 1000, 86_400_000_000]);
+    assert_eq!(marks(&records), [0, 1, 0, 0, 0]);
     for (second, number) in [
         ("29.02.2000 12:00:00.0009", 32),
         ("29.02.2000 12:00:00.0000", 32),
@@ -439,6 +450,50 @@ fn stamps_around_the_start() {
     let last = [0, 0, 8_639_999_999_999, 1];
     assert_eq!(answer(&stamped(&["13.10.2173 23:59:59.9999"])), last);
     assert_eq!(answer(&stamped(&["14.10.2173 00:00:00.0000"])), at(31, 1));
+}
+
+#[test]
+fn marks_where_stamps_go_back() {
+    // Every four of four stamps in the millisecond of the start, in which the first line may have any of them; and the same behind a first one.
+    for list in 0..256 {
+        let steps = [0, 2, 4, 6].map(|shift| list >> shift & 3);
+        let below = |two: &[u64]| u64::from(two[1] < two[0]);
+        let expected: Vec<u64> = [0].into_iter().chain(steps.windows(2).map(below)).collect();
+        let near = steps.map(|step| format!("29.02.2000 12:00:00.000{step}"));
+        let (answer, records) = read(&stamped(&near.each_ref().map(String::as_str)));
+        assert_eq!(answer, [0, 0, START, 4]);
+        assert_eq!(offsets(&records), steps.map(|step| step * 100));
+        assert_eq!(marks(&records), expected, "{steps:?}");
+        assert_eq!(exported(START, 0, &records).lines().count(), 4);
+        // 01:00:00.0000 to 04:00:00.0000, behind midnight.
+        let far = steps.map(|step| format!("01.03.2000 0{}:00:00.0000", step + 1));
+        let text = format!("{LINES}{}", stamped(&far.each_ref().map(String::as_str)));
+        let (answer, records) = read(&text);
+        assert_eq!(answer, [0, 0, START, 6]);
+        assert_eq!(marks(&records)[..3], [0, 0, 0]);
+        assert_eq!(marks(&records)[3..], expected[1..], "{steps:?}");
+    }
+}
+
+#[test]
+fn marks_of_lines_are_checked_by_the_export() {
+    let text = stamped(&[
+        "29.02.2000 12:00:00.0005",
+        "29.02.2000 12:00:00.0000",
+        "29.02.2000 12:00:00.0000",
+        "29.02.2000 12:00:00.0001",
+    ]);
+    let (_, records) = read(&text);
+    assert_eq!(marks(&records), [0, 1, 0, 0]);
+    assert_eq!(exported(START, 0, &records), text.replace('\n', "\r\n"));
+    for record in 0..4 {
+        let mut turned = records.clone();
+        turned[record * RECORD + RECORD - 1] ^= 32;
+        let mut out = [BEFORE; 4 * 86];
+        let answer = export(START, 0, &turned, &mut out);
+        assert_eq!(answer, [23, record as u64 + 1, 0, 0, 0]);
+        assert_eq!(out, [BEFORE; 4 * 86]);
+    }
 }
 
 #[test]

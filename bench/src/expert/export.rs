@@ -1,6 +1,7 @@
 //! The export: a first pass judges and measures all records, a second writes the lines.
 
 use super::clock::Clock;
+use super::marks::Marks;
 use super::pen::{digits, Pen};
 use super::record::{Fields, REMOTE};
 use super::tables::SMALL;
@@ -43,8 +44,9 @@ fn export_or_refuse(
 /// The bytes and the number of all lines.
 fn measure(channel: u64, records: &[[u8; RECORD]]) -> Result<(usize, u64), Refusal> {
     let (mut bytes, mut lines) = (0, 0);
+    let mut marks = Marks::default();
     for (number, record) in (1..).zip(records) {
-        let fields = Fields::judge(record).ok_or((23, number))?;
+        let fields = marks.judge(record).ok_or((23, number))?;
         if fields.kind < REMOTE {
             bytes += line_length(channel_of(&fields, channel), &fields);
             lines += 1;

@@ -13,6 +13,9 @@ mod cursor;
 mod explain;
 mod export;
 #[cfg(test)]
+mod mark_tests;
+mod marks;
+#[cfg(test)]
 mod meaning;
 mod pen;
 mod reader;

@@ -2,6 +2,7 @@
 
 use super::clock::milliseconds;
 use super::cursor::{Window, LONGEST};
+use super::marks::Marks;
 use super::record::Fields;
 use super::row::row;
 use super::{Refusal, DAY, LAST_START, RECORD};
@@ -28,12 +29,12 @@ fn read_or_refuse(text: &[u8], out: &mut [u8]) -> Result<[u64; 5], Refusal> {
     let (rows, first) = each_row::<false>(text, version, |_, _| ())?;
     let out = out.get_mut(..rows as usize * RECORD).ok_or((8, 0))?;
     let mut records = out.as_chunks_mut().0.iter_mut();
-    let (mut before, mut step_back) = (0, 0);
-    each_row::<true>(text, version, |position, fields| {
-        if fields.offset < before && step_back == 0 {
+    let (mut marks, mut step_back) = (Marks::default(), 0);
+    each_row::<true>(text, version, |position, mut fields| {
+        fields.mark = marks.next(fields.offset);
+        if fields.mark == 1 && step_back == 0 {
             step_back = position;
         }
-        before = fields.offset;
         if let Some(record) = records.next() {
             fields.store(record);
         }
@@ -47,7 +48,7 @@ fn read_or_refuse(text: &[u8], out: &mut [u8]) -> Result<[u64; 5], Refusal> {
 fn each_row<const JUDGED: bool>(
     mut text: &[u8],
     version: u64,
-    mut take: impl FnMut(u64, &Fields),
+    mut take: impl FnMut(u64, Fields),
 ) -> Result<(u64, u64), Refusal> {
     let (mut place, mut rows, mut first) = (3, 0, 0);
     // Any number will do for the first row.
@@ -68,7 +69,7 @@ fn each_row<const JUDGED: bool>(
             }
             expected = number + 1;
             rows += 1;
-            take(rows, &fields);
+            take(rows, fields);
             text = &text[len..];
         }
         place += 1;

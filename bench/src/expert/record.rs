@@ -24,6 +24,8 @@ pub struct Fields {
     pub length: u64,
     /// The first data byte is the most significant.
     pub data: u64,
+    /// Whether the offset is below that of the record before.
+    pub mark: u64,
 }
 
 impl Fields {
@@ -39,14 +41,15 @@ impl Fields {
             id: (head & 0x7F) << 22 | middle >> 42,
             length: middle >> 38 & 15,
             data: middle << 26 | end >> 6,
+            mark: end >> 5 & 1,
         }
     }
 
-    /// The fields of a well formed record.
+    /// The fields of a record that is well formed by itself, whichever mark it has.
     #[inline(always)]
     pub fn judge(record: &[u8; RECORD]) -> Option<Self> {
         let fields = Self::load(record);
-        (record[RECORD - 1] & 63 == 0 && fields.well_formed()).then_some(fields)
+        (record[RECORD - 1] & 31 == 0 && fields.well_formed()).then_some(fields)
     }
 
     /// Packs well formed fields.
@@ -58,7 +61,7 @@ impl Fields {
             | self.extended << 7
             | self.id >> 22;
         let middle = self.id << 42 | self.length << 38 | self.data >> 26;
-        let end = (self.data << 6) as u32;
+        let end = (self.data << 6 | self.mark << 5) as u32;
         record[..8].copy_from_slice(&head.to_be_bytes());
         record[8..16].copy_from_slice(&middle.to_be_bytes());
         record[16..].copy_from_slice(&end.to_be_bytes());
@@ -71,6 +74,7 @@ impl Fields {
             & (self.bus <= 16)
             & (self.extended <= 1)
             & (self.length <= 8)
+            & (self.mark <= 1)
             & (self.data & past(self.length) == 0);
         let ids = [STANDARD_IDS, EXTENDED_IDS][(self.extended & 1) as usize];
         shared
@@ -111,20 +115,20 @@ pub fn error(id: u64, data: u64) -> bool {
     matches!(id, 1 | 2 | 4 | 8) && direction <= 1 && matches!(position, 2..=15 | 17..=19 | 23..=28)
 }
 
-pub fn unpack(record: &[u8]) -> [u64; 9] {
+pub fn unpack(record: &[u8]) -> [u64; 10] {
     let Ok(record) = record.try_into() else {
-        return [20, 0, 0, 0, 0, 0, 0, 0, 0];
+        return [20, 0, 0, 0, 0, 0, 0, 0, 0, 0];
     };
     match Fields::judge(record) {
-        None => [23, 1, 0, 0, 0, 0, 0, 0, 0],
+        None => [23, 1, 0, 0, 0, 0, 0, 0, 0, 0],
         Some(f) => [
-            0, 0, f.offset, f.bus, f.kind, f.extended, f.id, f.length, f.data,
+            0, 0, f.offset, f.bus, f.kind, f.extended, f.id, f.length, f.data, f.mark,
         ],
     }
 }
 
-pub fn pack(fields: &[u64; 7], out: &mut [u8]) -> [u64; 2] {
-    let [offset, bus, kind, extended, id, length, data] = *fields;
+pub fn pack(fields: &[u64; 8], out: &mut [u8]) -> [u64; 2] {
+    let [offset, bus, kind, extended, id, length, data, mark] = *fields;
     let fields = Fields {
         offset,
         bus,
@@ -133,6 +137,7 @@ pub fn pack(fields: &[u64; 7], out: &mut [u8]) -> [u64; 2] {
         id,
         length,
         data,
+        mark,
     };
     if !fields.well_formed() {
         return [23, 1];

@@ -4,7 +4,8 @@ use super::cursor::{Cursor, Window, LONGEST, TOGETHER};
 use super::record::{error, Fields, ERROR, EXTENDED_IDS, REMOTE, STANDARD_IDS, WARNING};
 use super::record::{LAST_OFFSET, OFFSET_DIGITS};
 
-/// Reads the row at the beginning of a window, and gives its number and the bytes it has with its line end.
+/// Reads the row at the beginning of a window, and gives its number, its fields, of which the mark is not set, and the bytes it has with its
+/// line end.
 /// The expected number is 0 for a first row, which may have any.
 /// The rows of version 1.2 are those with a bus. `JUDGED` says that the row was taken before.
 #[inline(always)]

@@ -39,6 +39,9 @@ fn small_trace() {
     let first = [0, 0, 0, 0, 0, 0, 8, 0, 0, 4, 0x8C, 0x82, 0xBF, 0xC0];
     assert_eq!(records[..14], first);
     assert_eq!(records[14..RECORD], [0; 6]);
+    // Only row 3 steps back.
+    let marks = records.chunks(RECORD).map(|record| unpack(record)[9]);
+    assert_eq!(marks.collect::<Vec<u64>>(), [0, 0, 1]);
 
     let written = TEXT.replace("36585.5", "36585.5000000000");
     let mut out = vec![0; written.len()];
@@ -151,7 +154,7 @@ fn offsets_of_rows() {
 
 #[test]
 fn offsets_of_records() {
-    let fields = |offset| [offset, 1, 0, 0, 0x123, 0, 0];
+    let fields = |offset| [offset, 1, 0, 0, 0x123, 0, 0, 0];
     for offset in [0, (1 << 47) - 1, 1 << 47, LAST_OFFSET - 1, LAST_OFFSET] {
         let mut record = [0xAA; RECORD];
         assert_eq!(pack(&fields(offset), &mut record), [0, 0]);
@@ -192,7 +195,7 @@ fn last_stamps() {
         (LAST_START, "14.09.2182 19:29:36.7096"),
     ] {
         let mut record = [0; RECORD];
-        pack(&[LAST_OFFSET, 16, 1, 0, 0x7FF, 0, 0], &mut record);
+        pack(&[LAST_OFFSET, 16, 1, 0, 0x7FF, 0, 0, 0], &mut record);
         let line = format!("{stamp} CAN #16 | Tx 7ff 0\r\n");
         let mut out = vec![0; line.len()];
         let len = out.len() as u64;
@@ -209,7 +212,7 @@ fn record(bus: u64, kind: u64, extended: u64) -> [u8; RECORD] {
         _ => [0x123, 0, 0],
     };
     let mut record = [0; RECORD];
-    let fields = [0, bus, kind, extended, id, length, data];
+    let fields = [0, bus, kind, extended, id, length, data, 0];
     assert_eq!(pack(&fields, &mut record), [0, 0]);
     record
 }

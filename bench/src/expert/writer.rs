@@ -1,6 +1,7 @@
 //! The writer: a first pass judges and measures all records, a second writes them.
 
 use super::clock::fraction;
+use super::marks::Marks;
 use super::pen::{digits, Pen};
 use super::record::{Fields, ERROR, WARNING};
 use super::tables::CAPITAL;
@@ -51,8 +52,9 @@ fn numbered(first: u64, rows: u64) -> bool {
 /// The bytes of all rows.
 fn measure(records: &[[u8; RECORD]], first: u64, with_bus: bool) -> Result<usize, Refusal> {
     let (mut sum, mut uncarried) = (0, 0);
+    let mut marks = Marks::default();
     for (position, (number, record)) in (1..).zip((first..).zip(records)) {
-        let fields = Fields::judge(record).ok_or((23, position))?;
+        let fields = marks.judge(record).ok_or((23, position))?;
         if uncarried == 0 && !carried(&fields, with_bus) {
             uncarried = position;
         }

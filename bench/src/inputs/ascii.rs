@@ -2,7 +2,7 @@
 
 use super::channels::{channel_of, good_channel};
 use super::random::Random;
-use super::records::{frame, packed, Fields};
+use super::records::{frame, packed_all, Fields};
 use super::style::Style;
 use super::LAST_OFFSET;
 
@@ -136,7 +136,7 @@ impl AsciiText {
     /// What a reader must answer, and the records that it must write.
     pub fn known(&self) -> ([u64; 4], Vec<u8>) {
         let mut start = None;
-        let mut records = Vec::new();
+        let mut rows = Vec::new();
         for (place, line) in (1..).zip(&self.lines) {
             let line = line.as_ref();
             let Some(line) = line.filter(|line| (0..=LAST_STAMP).contains(&line.stamp)) else {
@@ -146,15 +146,15 @@ impl AsciiText {
             match line.stamp - start * 10 {
                 ..0 => return ([32, place, 0, 0], Vec::new()),
                 steps @ 0..=LAST_STEPS => {
-                    let mut fields = line.fields;
-                    fields[0] = steps as u64 * 100;
-                    records.extend(packed(&fields));
+                    let mut row = line.fields;
+                    row[0] = steps as u64 * 100;
+                    rows.push(row);
                 }
                 _ => return ([33, place, 0, 0], Vec::new()),
             }
         }
         let start = start.unwrap_or(0) as u64;
-        ([0, 0, start, self.lines.len() as u64], records)
+        ([0, 0, start, rows.len() as u64], packed_all(&rows))
     }
 }
 
@@ -245,23 +245,41 @@ pub fn first_stamp(random: &mut Random) -> i64 {
     ])
 }
 
+/// The least and the greatest stamp that may follow a first one in a good text.
+fn limits(first: i64) -> (i64, i64) {
+    let start = first - first.rem_euclid(10);
+    (start, (start + LAST_STEPS).min(LAST_STAMP).max(start))
+}
+
 /// Any of the stamps that may follow a first one in a good text. It need not rise.
 pub fn good_stamp(random: &mut Random, first: i64, before: i64) -> i64 {
-    let start = first - first.rem_euclid(10);
-    let most = (start + LAST_STEPS).min(LAST_STAMP);
+    let (start, most) = limits(first);
     let any = random.number() as i64 & i64::MAX;
     let stamp = match random.below(24) {
         0 => start,
         1 => start + any % 10,
         2 => most,
-        3 => start + any % (most - start + 1).max(1),
+        3 => start + any % (most - start + 1),
         4 => before + any % DAY,
         5 => before - any % 20_000,
         6 => before - before.rem_euclid(DAY) + DAY - 1 + any % 3,
         7 => before,
         _ => before + any % 20_000,
     };
-    stamp.clamp(start, most.max(start))
+    stamp.clamp(start, most)
+}
+
+/// A stamp behind a first one in a good text, often below the one before it, or the same.
+pub fn wavering_stamp(random: &mut Random, first: i64, before: i64) -> i64 {
+    let (start, most) = limits(first);
+    let far = 1 << random.below(42);
+    let step = random.pick(&[1, 1, far]);
+    let near = [before, before - step, before - step, before + step];
+    let stamp = match random.once_in(3) {
+        true => random.pick(&[start, first, most]),
+        false => random.pick(&near),
+    };
+    stamp.clamp(start, most)
 }
 
 /// Any stamp behind a first one, often one that is refused.

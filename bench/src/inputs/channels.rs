@@ -3,10 +3,9 @@
 use super::ascii::Line;
 use super::random::Random;
 use super::records::unpacked;
-use super::{LAST_CHANNEL, LAST_START};
+use super::{LAST_CHANNEL, LAST_START, RECORD};
 
-/// The bytes of a packed record, and the most of a list.
-const RECORD: usize = 20;
+/// The most bytes of a list of records.
 const MOST_RECORDS: usize = 999_999 * RECORD;
 /// Channels that there are not: the first ones, some whose lower 5, 8, 16 or 32 bits are a channel, and the last.
 const NO_CHANNELS: [u64; 14] = [
@@ -71,7 +70,8 @@ pub fn exported(start: u64, channel: u64, records: &[u8]) -> Exported {
     let (records, _) = records.as_chunks::<RECORD>();
     let (mut text, mut lines) = (String::new(), 0);
     for record in records {
-        if let Some(line) = Line::of_record(start, channel, &unpacked(record)) {
+        let [row @ .., _] = unpacked(record);
+        if let Some(line) = Line::of_record(start, channel, &row) {
             text += &line.exported();
             lines += 1;
         }

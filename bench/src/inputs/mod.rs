@@ -1,4 +1,4 @@
-//! Inputs at random: records, texts that spell them, lines like rows, lines of Telemotive ASCII, and damage to all of them.
+//! Inputs at random: records and their marks, texts that spell them, lines like rows, lines of Telemotive ASCII, and damage to all of them.
 
 pub mod ascii;
 pub mod ascii_damage;
@@ -6,6 +6,7 @@ pub mod ascii_spoiled;
 pub mod channels;
 pub mod damage;
 pub mod lines;
+pub mod marks;
 pub mod noise;
 pub mod numbers;
 pub mod random;
@@ -14,6 +15,8 @@ pub mod records;
 pub mod spelling;
 pub mod style;
 
+/// The bytes of a packed record.
+pub const RECORD: usize = 20;
 /// The last row number.
 pub const LAST_NUMBER: u64 = 999_999;
 /// The latest start in milliseconds.

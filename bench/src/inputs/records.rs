@@ -1,16 +1,20 @@
 //! Records at random, as fields and packed.
 
+use super::marks::true_marks;
 use super::random::Random;
 use super::LAST_OFFSET;
+use std::iter::zip;
 
-/// Offset, bus, kind, extended, ID, length, data.
+/// What a row or a line spells: offset, bus, kind, extended, ID, length, data.
 pub type Fields = [u64; 7];
+/// What a packed record holds: these, and its mark.
+pub type Marked = [u64; 8];
 
 const POSITIONS: [u64; 23] = [
     2, 3, 4, 5, 6, 7, 8, 9, 10, 11, 12, 13, 14, 15, 17, 18, 19, 23, 24, 25, 26, 27, 28,
 ];
-/// The bits of each field, in the order in which they are packed.
-const WIDTHS: [u32; 7] = [48, 5, 3, 1, 29, 4, 64];
+/// The bits of each field, in the order in which they are packed. Five zero bits follow.
+const WIDTHS: [u32; 8] = [48, 5, 3, 1, 29, 4, 64, 1];
 
 /// A well formed record that the version can carry.
 pub fn record(random: &mut Random, version: u64) -> Fields {
@@ -28,7 +32,7 @@ pub fn record(random: &mut Random, version: u64) -> Fields {
 }
 
 /// Around powers of ten, of which the greatest was the limit before Order 5, and of two, at the limit, and any.
-fn offset(random: &mut Random, version: u64) -> u64 {
+pub fn offset(random: &mut Random, version: u64) -> u64 {
     let power = match random.once_in(3) {
         true => 1 << random.between(30, 48),
         false => 10_u64.pow(random.between(1, 14) as u32),
@@ -86,8 +90,14 @@ fn error(random: &mut Random) -> [u64; 5] {
     [5, 0, random.pick(&[1, 2, 4, 8]), 4, data]
 }
 
+/// The fields of a record with a mark.
+pub fn marked(fields: &Fields, mark: u64) -> Marked {
+    let [offset, bus, kind, extended, id, length, data] = *fields;
+    [offset, bus, kind, extended, id, length, data, mark]
+}
+
 /// Packs fields bit by bit; what does not fit is cut off.
-pub fn packed(fields: &Fields) -> [u8; 20] {
+pub fn packed(fields: &Marked) -> [u8; 20] {
     let mut record = [0; 20];
     let mut at = 0;
     for (value, width) in fields.iter().zip(WIDTHS) {
@@ -99,8 +109,8 @@ pub fn packed(fields: &Fields) -> [u8; 20] {
     record
 }
 
-/// Takes a record apart bit by bit; the last six bits are left out.
-pub fn unpacked(record: &[u8; 20]) -> Fields {
+/// Takes a record apart bit by bit; the last five bits are left out.
+pub fn unpacked(record: &[u8; 20]) -> Marked {
     let mut at = 0;
     WIDTHS.map(|width| {
         let mut value = 0;
@@ -112,13 +122,14 @@ pub fn unpacked(record: &[u8; 20]) -> Fields {
     })
 }
 
-/// All records, packed one after the other.
+/// A list of records, packed one after the other, each with the mark that it must have.
 pub fn packed_all(rows: &[Fields]) -> Vec<u8> {
-    rows.iter().flat_map(packed).collect()
+    let records = zip(rows, true_marks(rows)).map(|(row, mark)| marked(row, mark));
+    records.flat_map(|record| packed(&record)).collect()
 }
 
 /// Fields of which one is past its limit, huge or otherwise changed.
-pub fn changed(random: &mut Random, mut fields: Fields) -> Fields {
+pub fn changed(random: &mut Random, mut fields: Marked) -> Marked {
     let at = random.below(fields.len());
     let old = fields[at];
     let limits = [LAST_OFFSET, 17, 0x800, 0x2000_0000, 1 << 47, u64::MAX, 9];
