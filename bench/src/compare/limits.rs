@@ -2,6 +2,7 @@
 
 use super::runs::Runs;
 use super::{Checked, Difference};
+use crate::inputs::marks::turned;
 use crate::inputs::numbers::Numbers;
 use crate::inputs::records::{record, Fields};
 use crate::inputs::spelling::Spelled;
@@ -23,6 +24,7 @@ pub fn limits(runs: &mut Runs) -> Checked {
         let most = spelled(runs, version, rows, 1);
         let none = spelled(runs, version, Vec::new(), 0);
         lists(runs, version as u32, &most.records(), &from_two.records())?;
+        last_mark(runs, version as u32, &most.records())?;
         rows_past_the_last(runs, &most, &["1000000", "999999", "000000", "0", "1"])?;
         rows_past_the_last(runs, &from_two, &["1000000"])?;
         texts(runs, most)?;
@@ -61,6 +63,15 @@ fn lists(runs: &mut Runs, version: u32, records: &[u8], one_fewer: &[u8]) -> Che
         expect("records written from a number on", number, 0, &written)?;
     }
     Ok(())
+}
+
+/// The mark of the last record that there may be, turned.
+fn last_mark(runs: &mut Runs, version: u32, records: &[u8]) -> Checked {
+    let list = turned(records, MOST_ROWS - 1);
+    let written = runs.write(KIND, version, LAST_START, 1, &list)?;
+    expect("the last mark written", 23, MOST_ROWS as u64, &written)?;
+    let (exported, _) = runs.export(KIND, LAST_START, LAST_CHANNEL, &list, false)?;
+    expect("the last mark exported", 23, MOST_ROWS as u64, &exported)
 }
 
 /// Rows up to the last number, and one more, with each of these numbers.

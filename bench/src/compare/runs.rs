@@ -4,9 +4,11 @@ use super::both::Both;
 use super::tally::Tally;
 use super::{shown, Difference};
 use crate::inputs::ascii::LEAST;
-use crate::inputs::channels::{any_channel, exported, refused, Exported};
+use crate::inputs::channels::{any_channel, exported, good_channel, refused, Exported};
+use crate::inputs::marks::{first_mark, marks_are_true, turned};
+use crate::inputs::numbers::good_first;
 use crate::inputs::random::Random;
-use crate::inputs::records::Marked;
+use crate::inputs::records::{packed, Marked};
 use crate::inputs::{LAST_CHANNEL, LAST_NUMBER};
 use bushingowl::{explain_refusal, Reason, Refused, RowFault};
 use bushingowl::{CHANNEL_AS_BUS, LEAST_ROW, MOST_HEADER, MOST_LINE, MOST_ROW, RECORD};
@@ -36,7 +38,7 @@ impl Runs {
         let most = (text.len() / LEAST_ROW + 1) * RECORD;
         let answer = self.both.read(text, most)?;
         self.tally.count(kind, answer[0]);
-        let [number, place, _, _, rows, _, _] = answer;
+        let [number, place, _, start, rows, step_back, _] = answer;
         let exact = rows as usize * RECORD;
         let records = self.both.output(exact).to_vec();
         if known.is_some_and(|(known, bytes)| known != answer || bytes != records) {
@@ -49,9 +51,39 @@ impl Runs {
         let again = self.both.read(text, room)?;
         self.tally.count("read into other room", again[0]);
         if number == 0 {
+            if step_back != first_mark(&records) {
+                return Err(self.wrong("the first step back is not the first mark", text));
+            }
+            self.judge_marks(text, start, &records)?;
             self.there_and_back(&records, answer)?;
         }
         Ok(answer)
+    }
+
+    /// What was read has true marks. With one of them turned it is neither written nor exported: 23 names its record.
+    fn judge_marks(&mut self, text: &[u8], start: u64, records: &[u8]) -> Result<(), Difference> {
+        if !marks_are_true(records) {
+            return Err(self.wrong("a mark is false", text));
+        }
+        let rows = records.len() / RECORD;
+        if rows == 0 {
+            return Ok(());
+        }
+        let random = &mut self.random;
+        let (version, first, at) = (
+            random.pick(&[11, 12]),
+            good_first(random, rows),
+            random.below(rows),
+        );
+        let (list, place, channel) = (turned(records, at), at as u64 + 1, good_channel(random));
+        let written = self.both.write(version, start, first, &list, MOST_HEADER)?;
+        self.tally.count("written with a mark turned", written[0]);
+        if written != [23, place, 0] {
+            let what = format!("{written:?} with the mark of record {place} turned");
+            return Err(self.wrong(&what, &list));
+        }
+        let (kind, known) = ("exported with a mark turned", [23, place, 0, 0, 0]);
+        self.export_into(kind, start, channel, &list, MOST_LINE, &(known, Vec::new()))
     }
 
     /// What was read must be written with its first number, and then read as the same. It can be exported, too, with any channel.
@@ -89,12 +121,16 @@ impl Runs {
         let room = self.other_room(exact);
         let again = self.both.write(version, start, first, records, room)?;
         self.tally.count("written into other room", again[0]);
+        let expected = if room < exact { [25, 0, 0] } else { answer };
+        if again != expected {
+            return Err(self.wrong(&format!("{again:?} with a room of {room}"), records));
+        }
         if answer[0] == 0 {
             let read = self.both.read(&text, records.len())?;
             self.tally.count("read after writing", read[0]);
-            let rows = (records.len() / RECORD) as u64;
-            let same = read[..5] == [0, 0, u64::from(version), start, rows] && read[6] == first;
-            if !same || self.both.output(records.len()) != records {
+            let (version, rows) = (u64::from(version), (records.len() / RECORD) as u64);
+            let known = [0, 0, version, start, rows, first_mark(records), first];
+            if read != known || self.both.output(records.len()) != records {
                 return Err(self.wrong("what was written is not read as the same", &text));
             }
         }
@@ -184,6 +220,7 @@ impl Runs {
             return Err(self.wrong(&format!("{again:?} with a room of {room}"), text));
         }
         if answer[0] == 0 {
+            self.judge_marks(text, answer[2], &records)?;
             self.exported_and_back(text, &records, answer)?;
         }
         Ok(answer)
@@ -232,8 +269,14 @@ impl Runs {
         let room = self.random.pick(&[RECORD, RECORD, RECORD, 0, 19, 21, 100]);
         let answer = self.both.pack(fields, room)?;
         self.tally.count(kind, answer[0]);
+        if answer[0] == 25 && room >= RECORD {
+            return Err(self.wrong(&format!("{fields:?} has room"), &[]));
+        }
         if answer[0] == 0 {
             let record = self.both.output(RECORD).to_vec();
+            if record != packed(fields) {
+                return Err(self.wrong(&format!("{fields:?} is packed as other bits"), &record));
+            }
             let again = self.both.unpack(&record)?;
             self.tally.count("unpacked after packing", again[0]);
             if again[2..] != *fields {
