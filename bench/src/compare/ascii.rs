@@ -103,7 +103,7 @@ fn edit(random: &mut Random, lines: &mut Vec<(Vec<u8>, Line)>) {
 }
 
 /// Some lines, seldom many or none.
-fn how_many(random: &mut Random) -> usize {
+pub fn how_many(random: &mut Random) -> usize {
     match random.below(1000) {
         0 => random.mostly_small(3000),
         1..=40 => random.mostly_small(100),
@@ -126,7 +126,12 @@ fn lines(random: &mut Random, next: fn(&mut Random, i64, i64) -> i64) -> Vec<Lin
     (0..count).map(&mut line).collect()
 }
 
-fn spelled(runs: &mut Runs, kind: &'static str, next: fn(&mut Random, i64, i64) -> i64) -> Checked {
+/// Lines whose stamps are known to be good, or not.
+pub fn spelled(
+    runs: &mut Runs,
+    kind: &'static str,
+    next: fn(&mut Random, i64, i64) -> i64,
+) -> Checked {
     let text = spelled_text(&mut runs.random, next);
     runs.read_ascii(kind, &text.text, Some(&text.known()))?;
     Ok(())

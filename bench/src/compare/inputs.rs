@@ -1,6 +1,7 @@
 //! One input at random, of any kind.
 
 use super::ascii::one_text;
+use super::marks::one_of_marks;
 use super::runs::Runs;
 use super::Checked;
 use crate::inputs::channels::any_channel;
@@ -11,10 +12,11 @@ use crate::inputs::records::{changed, marked, packed, packed_all, record, Fields
 use crate::inputs::spelling::Spelled;
 use crate::inputs::{noise, LAST_START};
 
-/// Of a hundred inputs, those that are texts of Telemotive ASCII.
-const ASCII: usize = 45;
+/// Of a hundred inputs, those that are texts of Telemotive ASCII, and those that are about marks.
+const ASCII: usize = 35;
+const MARKS: usize = 22;
 /// Single records come so many at a time.
-const RECORDS: usize = 8;
+pub const RECORDS: usize = 8;
 /// Each list of records is exported so many times, with any channel.
 const CHANNELS: usize = 3;
 
@@ -22,8 +24,12 @@ const CHANNELS: usize = 3;
 pub const VERSIONS: [&[u64]; 3] = [&[11], &[12], &[11, 12]];
 
 pub fn one_input(runs: &mut Runs) -> Checked {
-    if runs.random.below(100) < ASCII {
+    let of_hundred = runs.random.below(100);
+    if of_hundred < ASCII {
         return one_text(runs);
+    }
+    if of_hundred < ASCII + MARKS {
+        return one_of_marks(runs);
     }
     match runs.random.below(20) {
         0..=5 => spelled(runs),

@@ -11,6 +11,7 @@ pub mod inputs;
 pub mod limits;
 pub mod lines;
 pub mod long_lines;
+mod marks;
 pub mod offset_limits;
 pub mod runs;
 mod tally;
