@@ -4,6 +4,7 @@ use bushingowl_bench::compare::ascii_limits::ascii_limits;
 use bushingowl_bench::compare::channels::channels;
 use bushingowl_bench::compare::every_ascii::every_ascii;
 use bushingowl_bench::compare::every_field::every_field;
+use bushingowl_bench::compare::every_mark::every_mark;
 use bushingowl_bench::compare::every_part::every_part;
 use bushingowl_bench::compare::inputs::one_input;
 use bushingowl_bench::compare::limits::limits;
@@ -46,6 +47,9 @@ fn main() -> ExitCode {
     }
     if let Err(difference) = channels(&mut runs) {
         return differs("channels", &difference);
+    }
+    if let Err(difference) = every_mark(&mut runs) {
+        return differs("marks", &difference);
     }
     if let Err(difference) = every_field(&mut runs).and_then(|()| long_lines(&mut runs)) {
         return differs("short fields and long lines", &difference);

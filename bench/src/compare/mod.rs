@@ -6,6 +6,7 @@ mod both;
 pub mod channels;
 pub mod every_ascii;
 pub mod every_field;
+pub mod every_mark;
 pub mod every_part;
 pub mod inputs;
 pub mod limits;
