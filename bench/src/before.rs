@@ -2,15 +2,18 @@
 //!
 //! Why every call here is sound:
 //! - The script `measure` makes the shared object of an archive whose functions are those of `include/bushingowl.h`, as it is or as it was before
-//!   Order 6, 4 or 3. Which of these it is, is told before any function is called that has other parameters in one of them: by whether there is a
+//!   Order 7, 6, 4 or 3. Which of these it is, is told before any function is called that has other parameters in one of them: by whether there is a
 //!   reader of ASCII, which Order 4 added, and by calls of the two readers, whose parameters have always been the same. Since Order 3 the reader sets
-//!   a seventh number, for which there is room, and since Order 6 the reader of ASCII takes channel 0. So the export and the writer are called
-//!   with the parameters of the header that the library was made with.
+//!   a seventh number, for which there is room; since Order 6 the reader of ASCII takes channel 0, and since Order 7 it marks a step back. So the
+//!   export and the writer are called with the parameters of the header that the library was made with. Order 7 changed only those of packing and
+//!   unpacking, which are not called here.
 //! - For a library before the present one a variable must name the same header. Where it names another, or none, nothing more is called.
 //! - It is never closed, so that its functions stay where they are.
 //! - A slice goes over as its pointer and its length, and the library reads and writes only within the lengths given.
 //! - `&mut` makes sure that the output and the answer overlap with nothing else in the call. No pointer is kept.
 
+use crate::inputs::marks::first_mark;
+use bushingowl::RECORD;
 use std::env::{self, VarError::NotUnicode};
 use std::ffi::{c_char, c_int, c_void, CStr, CString, OsString};
 use std::mem::transmute;
@@ -36,18 +39,20 @@ const RTLD_NOW: c_int = 2;
 const VARIABLE: &str = "BUSHINGOWL_BEFORE_SHARED";
 /// The variable that says by which header the library is called: the number that `BUSHINGOWL_API` has there.
 const API: &str = "BUSHINGOWL_BEFORE_API";
-/// The header as it is, as it was before Order 6, before Order 4, and before Order 3.
-const PRESENT: u64 = 5;
+/// The header as it is, as it was before Order 7, before Order 6, before Order 4, and before Order 3.
+const PRESENT: u64 = 6;
+const WITHOUT_MARKS: u64 = 5;
 const AS_ONE: u64 = 4;
 const WITHOUT_ASCII: u64 = 3;
 const FROM_ONE: u64 = 2;
 /// What an answer holds before the call. Every call sets every number.
 const UNSET: u64 = u64::MAX;
-/// A line that is none before Order 6, and the bytes of its record.
-const CHANNEL_0: &[u8] = b"30.12.1899 00:00:00.0000 CAN #0 | Rx 123 0\n";
-const RECORD: usize = 20;
+/// Two lines of channel 0, so that they are none before Order 6. The second is a step back, which has no mark before Order 7.
+const STEP_BACK: &[u8] =
+    b"30.12.1899 00:00:00.0001 CAN #0 | Rx 123 0\n30.12.1899 00:00:00.0000 CAN #0 | Rx 123 0\n";
 
-/// Its functions are those of `bushingowl::numbers`.
+/// Its functions are those of `bushingowl::numbers`. Before Order 7 they know no marks: what is read has none, and what has one is neither written
+/// nor exported. So all libraries do the same only with records of which none steps back.
 pub struct Before {
     read: Read,
     write: Writer,
@@ -94,7 +99,7 @@ impl Before {
                 return Err(format!("{API}={named} is for another, it needs {told}"));
             }
             None if told != PRESENT => {
-                return Err(format!("made before Order 6, it needs {API}={told}"));
+                return Err(format!("made before Order 7, it needs {API}={told}"));
             }
             _ => {}
         }
@@ -107,7 +112,9 @@ impl Before {
                     _ => Writer::Numbered(transmute::<NonNull<c_void>, Write>(write)),
                 },
                 export: match told {
-                    PRESENT => Exporter::Given(transmute::<NonNull<c_void>, Export>(export)),
+                    PRESENT | WITHOUT_MARKS => {
+                        Exporter::Given(transmute::<NonNull<c_void>, Export>(export))
+                    }
                     _ => Exporter::AsOne(transmute::<NonNull<c_void>, ExportAsOne>(export)),
                 },
                 read_ascii,
@@ -197,10 +204,12 @@ fn told(read: Read, read_ascii: Option<Read>) -> Result<u64, String> {
             _ => Ok(WITHOUT_ASCII),
         };
     };
-    match ascii_read(read_ascii, CHANNEL_0, &mut [0; RECORD]) {
-        [0, 0, 0, 1] => Ok(PRESENT),
+    let mut records = [0; 2 * RECORD];
+    match ascii_read(read_ascii, STEP_BACK, &mut records) {
         [31, 1, 0, 0] => Ok(AS_ONE),
-        other => Err(format!("a line of channel 0 is answered by {other:?}")),
+        [0, 0, 0, 2] if first_mark(&records) == 0 => Ok(WITHOUT_MARKS),
+        [0, 0, 0, 2] if first_mark(&records) == 2 => Ok(PRESENT),
+        other => Err(format!("a step back on channel 0 is answered by {other:?}")),
     }
 }
 
@@ -211,7 +220,7 @@ fn named_api() -> Result<Option<u64>, String> {
         Err(NotUnicode(_)) => "no number".to_string(),
         _ => return Ok(None),
     };
-    let known = [FROM_ONE, WITHOUT_ASCII, AS_ONE, PRESENT];
+    let known = [FROM_ONE, WITHOUT_ASCII, AS_ONE, WITHOUT_MARKS, PRESENT];
     match known.iter().find(|number| number.to_string() == named) {
         Some(&number) => Ok(Some(number)),
         None => Err(format!("{API} is one of {known:?}, not {named}")),

@@ -5,6 +5,7 @@ use bushingowl_bench::before::Before;
 use bushingowl_bench::boundary;
 use bushingowl_bench::cpu_time::cpu_time;
 use bushingowl_bench::expert;
+use bushingowl_bench::inputs::marks::first_mark;
 use bushingowl_bench::inputs::random::Random;
 use bushingowl_bench::inputs::realistic::{in_columns, realistic};
 use bushingowl_bench::inputs::records::packed_all;
@@ -144,9 +145,16 @@ impl Side {
     }
 }
 
-fn measure_all(sides: &[Side], rows: usize, version: u32) {
+/// The records of a trace as a logger records it. None steps back, and so none has a mark, as an earlier library needs it.
+fn unmarked(rows: usize, version: u32) -> Vec<u8> {
     let mut random = Random::new(rows as u64);
     let records = packed_all(&realistic(&mut random, u64::from(version), rows));
+    assert_eq!(first_mark(&records), 0, "a record steps back");
+    records
+}
+
+fn measure_all(sides: &[Side], rows: usize, version: u32) {
+    let records = unmarked(rows, version);
     let mut text = vec![0; MOST_HEADER + rows * MOST_ROW];
     let [.., len] = expert::write(version, START, FIRST, &records, &mut text);
     text.truncate(len as usize);
