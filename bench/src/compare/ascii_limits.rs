@@ -20,13 +20,14 @@ pub fn ascii_limits(runs: &mut Runs) -> Checked {
     lines(runs)
 }
 
-/// As many lines as there may be, in as many bytes.
+/// As many lines as there may be, in as many bytes. Their stamps go back here and there.
 fn longest(random: &mut Random) -> AsciiText {
     let style = AsciiStyle::plain();
     let mut text = AsciiText::default();
-    let mut stamp = 36_585 * DAY;
+    let first = 36_585 * DAY;
+    let mut stamp = first;
     for left in (1..=MOST_LINES).rev() {
-        stamp += random.below(20_000) as i64;
+        stamp = (stamp + random.below(20_000) as i64 - 5_000).max(first);
         let line = Line::new(random, stamp);
         let parts = line.parts(random, &style.style);
         let end = style.end(random);
