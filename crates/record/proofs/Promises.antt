@@ -115,6 +115,12 @@ packed-done {r} {m} {l} (PackPromise.done p h e f) = (packs (p .formed) (p .bit)
 packed-done (PackPromise.malformed n e f) = other e (omega arith)
 packed-done (PackPromise.short w b h e f) = other e (omega arith)
 
+-- Whatever is answered with number 0, the first twenty bytes are the packed record.
+pub packed-0 : {r : Record} {m : ℕ} {l ns x : List ℕ} → PackPromise r m l (0 ∷ ns) x → Packs r m (take 20 x)
+packed-0 {l = l} (PackPromise.done {s = s} p h e f) = rw (f, take-at s (drop 20 l) 20 (packed-length p)) p
+packed-0 (PackPromise.malformed n e f) = other e (omega arith)
+packed-0 (PackPromise.short w b h e f) = other e (omega arith)
+
 pub packed-malformed : {r : Record} {m : ℕ} {l x : List ℕ} → PackPromise r m l (packNumbers packed.Malformed) x
     → (WellFormed r → m ≤ 1 → ⊥) × (x ≡ l)
 packed-malformed (PackPromise.done p h e f) = other e (omega arith)

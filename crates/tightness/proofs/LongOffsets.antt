@@ -5,8 +5,7 @@ use mathlib.Core.Path.{_≡_, refl, ap, sym}
 use mathlib.Core.Logic.{_≢_}
 use mathlib.Core.List.{List, [], _∷_, _++_}
 use native.Mathlib.Omega.{arith}
-use lib.ListN.{length, getD, take, drop}
-use lib.Seq.{take-at}
+use lib.ListN.{length, getD, take}
 use Rattle.base.specs.Limits.{offsetLimit}
 use Rattle.digits.specs.Digits.{DecimalDigit, Digits}
 use Rattle.digits.specs.House.{decimalText, paddedText}
@@ -20,10 +19,9 @@ use Rattle.clock.proofs.Dates.{one-date, made}
 use Rattle.record.specs.declared.Record.{Record}
 use Rattle.record.specs.Bytes.{bytes}
 use Rattle.record.specs.Record.{WellFormed, number, Packs}
-use Rattle.record.specs.Promise.{PackPromise, done, short, UnpackPromise, fields, not-twenty, recordNumbers}
-use Rattle.record.specs.Promise
-use Rattle.record.proofs.OneRecord.{packs, packed-length, one-record}
-use Rattle.record.proofs.Promises.{unpacked-fields}
+use Rattle.record.specs.Promise.{PackPromise, UnpackPromise, recordNumbers}
+use Rattle.record.proofs.OneRecord.{packs, one-record}
+use Rattle.record.proofs.Promises.{packed-0, unpacked-fields}
 use Rattle.fields.specs.Columns.{lastNumber}
 use Rattle.fields.specs.Parted.{Parted}
 use Rattle.fields.proofs.Columns.{before as digits-before, offset-value}
@@ -37,6 +35,7 @@ use Rattle.row_reader.specs.inner.Answer.{RowFound}
 use Rattle.ascii_line_reader.specs.AsciiLine.{withOffset}
 use Rattle.explain.specs.Explain.{BeginsRow, WrongField}
 use Rattle.explain.specs.Promise.{ExplainPromise}
+use Rattle.tightness.proofs.Marks.{mark-refused, mark-not-unpacked}
 use Rattle.tightness.proofs.Rows.{row-refused, found}
 use Rattle.tightness.proofs.Explaining.{another-field, wrong-called-early, behind}
 
@@ -60,20 +59,14 @@ every-offset o h w = record {
 -- record: 23 for an offset of 48 bits
 module _ {r : Record} (w : WellFormed r) {o : ℕ} (h : o < 2 ^ 48) where
   pub old-limit-in-pack : {mark : ℕ} {before after ns : List ℕ} → mark ≤ 1 → PackPromise (withOffset o r) mark before (23 ∷ ns) after → ⊥
-  old-limit-in-pack b (done p n e z) = let x : _≡_ {A = ℕ} 23 0 = cc in omega arith
-  old-limit-in-pack b (Promise.malformed f e z) = f (every-offset o h w) b
-  old-limit-in-pack b (short f m n e z) = let x : _≡_ {A = ℕ} 23 25 = cc in omega arith
+  old-limit-in-pack = mark-refused (every-offset o h w)
 
   pub old-limit-in-unpack : {mark : ℕ} {ns : List ℕ} → mark ≤ 1 → UnpackPromise (bytes 20 (number (withOffset o r) mark)) (23 ∷ ns) → ⊥
-  old-limit-in-unpack b (fields p e) = let x : _≡_ {A = ℕ} 23 0 = cc in omega arith
-  old-limit-in-unpack b (not-twenty n e) = let x : _≡_ {A = ℕ} 23 20 = cc in omega arith
-  old-limit-in-unpack {mark} b (Promise.malformed n f e) = f (withOffset o r) mark (packs (every-offset o h w) b)
+  old-limit-in-unpack b = mark-not-unpacked (packs (every-offset o h w) b)
 
 -- an offset of 49 bits or more, packed
 pub packs-49-bits : {r : Record} {mark : ℕ} {before after ns : List ℕ} → 2 ^ 48 ≤ r .offset → PackPromise r mark before (0 ∷ ns) after → ⊥
-packs-49-bits h (done p n e z) = omega (arith, p .formed .offset)
-packs-49-bits h (Promise.malformed f e z) = let x : _≡_ {A = ℕ} 0 23 = cc in omega arith
-packs-49-bits h (short f b n e z) = let x : _≡_ {A = ℕ} 0 25 = cc in omega arith
+packs-49-bits h p = omega (arith, packed-0 p .formed .offset)
 
 -- the offset cut to 47 bits, packed and unpacked
 module _ {r q : Record} (h : 2 ^ 47 ≤ r .offset) (c : q .offset ≡ r .offset % 2 ^ 47) where
@@ -81,10 +74,7 @@ module _ {r q : Record} (h : 2 ^ 47 ≤ r .offset) (c : q .offset ≡ r .offset 
   differ e = omega (arith, ap (λ (t : Record). t .offset) e)
 
   pub cut-in-pack : {mark m : ℕ} {before after ns : List ℕ} → PackPromise r mark before (0 ∷ ns) after → Packs q m (take 20 after) → ⊥
-  cut-in-pack {before = before} (done {s = s} p n e z) x =
-      differ (one-record p (rw (z, take-at s (drop 20 before) 20 (packed-length p)) at x))
-  cut-in-pack (Promise.malformed f e z) x = let y : _≡_ {A = ℕ} 0 23 = cc in omega arith
-  cut-in-pack (short f b n e z) x = let y : _≡_ {A = ℕ} 0 25 = cc in omega arith
+  cut-in-pack p x = differ (one-record (packed-0 p) x)
 
   pub cut-in-unpack : {mark m : ℕ} {s : List ℕ} → Packs r mark s → UnpackPromise s (recordNumbers q m) → ⊥
   cut-in-unpack p u = differ (one-record p (unpacked-fields q u))

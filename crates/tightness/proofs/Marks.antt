@@ -5,12 +5,12 @@ use mathlib.Core.Path.{_≡_, sym, _∙_}
 use mathlib.Core.Logic.{_≢_}
 use mathlib.Core.List.{List, _∷_, _++_}
 use native.Mathlib.Omega.{arith}
-use lib.ListN.{length, getD, take, drop, List·getD-append}
+use lib.ListN.{length, getD, take, drop}
 use Rattle.record.specs.declared.Record.{Record}
 use Rattle.record.specs.Record.{WellFormed, Packs}
 use Rattle.record.specs.Promise.{PackPromise, UnpackPromise, recordNumbers}
-use Rattle.record.proofs.OneRecord.{packed-length, mark-place}
-use Rattle.record.proofs.Promises.{unpacked-fields}
+use Rattle.record.proofs.OneRecord.{mark-place}
+use Rattle.record.proofs.Promises.{packed-0, unpacked-fields}
 use Rattle.records.specs.Records.{markAfter, packed, Each, PacksAll, FirstMalformed}
 use Rattle.records.proofs.Marks.{first-unmarked, mark-told}
 use Rattle.records.proofs.Packing.{mark-below, mark-none}
@@ -25,18 +25,11 @@ use Rattle.tightness.proofs.Writers.{done}
 
 -- pack: the mark at another bit than the sixth from the end, or one of the five behind it set
 module _ {r : Record} {mark : ℕ} {before after ns : List ℕ} where
-  placed : PackPromise r mark before (0 ∷ ns) after → (getD after 19 0 / 32 % 2 ≡ mark) × (getD after 19 0 % 32 ≡ 0)
-  placed (PackPromise.done {s = s} p h e q) =
-      let z : getD after 19 0 ≡ getD s 19 0 = rw q (List·getD-append s (drop 20 before) 0 19 (omega (arith, packed-length p))) in
-      rw z (mark-place p)
-  placed (PackPromise.malformed f e q) = let z : _≡_ {A = ℕ} 0 23 = cc in absurd (omega arith)
-  placed (PackPromise.short w b l e q) = let z : _≡_ {A = ℕ} 0 25 = cc in absurd (omega arith)
+  pub mark-at-another-bit : getD (take 20 after) 19 0 / 32 % 2 ≢ mark → PackPromise r mark before (0 ∷ ns) after → ⊥
+  mark-at-another-bit d p = d (mark-place (packed-0 p) .0)
 
-  pub mark-at-another-bit : getD after 19 0 / 32 % 2 ≢ mark → PackPromise r mark before (0 ∷ ns) after → ⊥
-  mark-at-another-bit d p = d (placed p .0)
-
-  pub spare-bit-set : getD after 19 0 % 32 ≢ 0 → PackPromise r mark before (0 ∷ ns) after → ⊥
-  spare-bit-set d p = d (placed p .1)
+  pub spare-bit-set : getD (take 20 after) 19 0 % 32 ≢ 0 → PackPromise r mark before (0 ∷ ns) after → ⊥
+  spare-bit-set d p = d (mark-place (packed-0 p) .1)
 
   -- any other number than 23 for a mark above 1
   pub mark-above-1-taken : {n : ℕ} → 1 < mark → n ≢ 23 → PackPromise r mark before (n ∷ ns) after → ⊥

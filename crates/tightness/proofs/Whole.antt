@@ -10,7 +10,8 @@ use Rattle.digits.proofs.Theorems.{one-decimal}
 use Rattle.fields.specs.Columns.{NumberField, BusField}
 use Rattle.fields.proofs.Columns.{before}
 use Rattle.record.specs.declared.Record.{Record}
-use Rattle.record.specs.Promise.{PackPromise, done, malformed, short}
+use Rattle.record.specs.Promise.{PackPromise}
+use Rattle.record.proofs.Promises.{packed-0}
 use Rattle.row.specs.Row
 use Rattle.base.specs.Spaced.{spaced, joined}
 use Rattle.row.specs.Versions.{is12}
@@ -88,6 +89,4 @@ start-eleven-digits s = omega (arith, parts-of 1 11 0 (omega arith) s .2, s .giv
 
 -- a record with bus 17, packed
 pub packs-bus-17 : {r : Record} {mark : ℕ} {before after : List ℕ} → r .bus ≡ 17 → PackPromise r mark before (0 ∷ 0 ∷ []) after → ⊥
-packs-bus-17 e (done p n z s) = omega (arith, p .formed .bus)
-packs-bus-17 e (malformed f z s) = let x : _≡_ {A = ℕ} 0 23 = cc in omega arith
-packs-bus-17 e (short f b n z s) = let x : _≡_ {A = ℕ} 0 25 = cc in omega arith
+packs-bus-17 e p = omega (arith, packed-0 p .formed .bus)
