@@ -13,7 +13,7 @@ use Rattle.record.proofs.OneRecord.{packed-length, one-marked}
 use Rattle.records.specs.Records.{markAfter, lastAfter, lastOffset, packedAfter, packed, Each, none, more, PacksAll}
 use Rattle.records.specs.StepBack.{backFrom, stepBack, MarkAt, FirstMark}
 use Rattle.records.specs.StepBack
-use Rattle.records.proofs.Packing.{mark-below, mark-none, marked-packs, after-length, first-packed}
+use Rattle.records.proofs.Packing.{mark-below, mark-none, after-length, first-packs}
 use Rattle.records.proofs.Records.{behind}
 
 -- Record i + 1 of some records is record i of those behind the first.
@@ -30,7 +30,7 @@ head-mark : {q : Record} {mark : ℕ} {rs : List Record} (b : ℕ) → Each Well
     → mark ≡ markAfter b (q .offset)
 head-mark b none p = absurd (nowhere b 0 p)
 head-mark b (more {r = r} {rs = rs} w ws) p =
-    let z = one-marked p (rw (← (first-packed b r rs)) at (marked-packs b w)) in
+    let z = one-marked p (first-packs b r rs w) in
     z .1 ∙ ap (λ (x : Record). markAfter b (x .offset)) (sym (z .0))
 
 -- And that of any record behind another.
@@ -38,7 +38,7 @@ next-mark : {r q : Record} {k mark : ℕ} {rs : List Record} (b i : ℕ) → Eac
     → Packs q mark (take 20 (drop (20 * suc i) (packedAfter b rs))) → mark ≡ markAfter (r .offset) (q .offset)
 next-mark b i none p g = absurd (nowhere b (20 * i) p)
 next-mark {r} {q} b zero (more {r = x} {rs = rs} w ws) p g =
-    let z : r ≡ x = one-marked p (rw (← (first-packed b x rs)) at (marked-packs b w)) .0 in
+    let z : r ≡ x = one-marked p (first-packs b x rs w) .0 in
     rw z (head-mark (x .offset) ws (rw (shifted b x rs 0) at g))
 next-mark b (suc i) (more {r = x} {rs = rs} w ws) p g =
     next-mark (x .offset) i ws (rw (shifted b x rs i) at p) (rw (shifted b x rs (suc i)) at g)
@@ -46,7 +46,7 @@ next-mark b (suc i) (more {r = x} {rs = rs} w ws) p g =
 -- A record stands in its list with the mark that it has behind those before it.
 in-list : (b : ℕ) (front : List Record) (r : Record) (back : List Record) → Each WellFormed (front ++ (r ∷ back))
     → Packs r (markAfter (lastAfter b front) (r .offset)) (take 20 (drop (20 * length front) (packedAfter b (front ++ (r ∷ back)))))
-in-list b [] r back (more w ws) = rw (← (first-packed b r back)) at (marked-packs b w)
+in-list b [] r back (more w ws) = first-packs b r back w
 in-list b (q ∷ front) r back (more w ws) = rw (shifted b q (front ++ (r ∷ back)) (length front)) (in-list (q .offset) front r back ws)
 
 pub marked-there : (front : List Record) (r : Record) (back : List Record) → Each WellFormed (front ++ (r ∷ back))
@@ -69,7 +69,7 @@ data From (s : List ℕ) (n at : ℕ) : ℕ → Type 0 where
 
 module _ (b : ℕ) (r : Record) (rs : List Record) where
   here : {mark : ℕ} → WellFormed r → markAfter b (r .offset) ≡ mark → MarkAt (packedAfter b (r ∷ rs)) 0 mark
-  here w e = record { this = r; packs = rw e at (rw (← (first-packed b r rs)) at (marked-packs b w)) }
+  here w e = record { this = r; packs = rw e at (first-packs b r rs w) }
 
   there : {i mark : ℕ} → MarkAt (packedAfter (r .offset) rs) i mark → MarkAt (packedAfter b (r ∷ rs)) (suc i) mark
   there {i} m = record { this = m .this; packs = rw (shifted b r rs i) (m .packs) }

@@ -99,5 +99,8 @@ module _ (before : ℕ) (r : Record) (rs : List Record) where
   pub first-packed : take 20 (packedAfter before (r ∷ rs)) ≡ marked before r
   first-packed = rw packed-first (take-at (marked before r) (packedAfter (r .offset) rs) 20 (marked-length before r))
 
+  pub first-packs : WellFormed r → Packs r (markAfter before (r .offset)) (take 20 (packedAfter before (r ∷ rs)))
+  first-packs w = rw first-packed (marked-packs before w)
+
   pub rest-packed : drop 20 (packedAfter before (r ∷ rs)) ≡ packedAfter (r .offset) rs
   rest-packed = rw packed-first (drop-at (marked before r) (packedAfter (r .offset) rs) 20 (marked-length before r))

@@ -12,7 +12,7 @@ use Rattle.record.specs.Record.{WellFormed, Packs}
 use Rattle.record.proofs.OneRecord.{packed-length, one-marked, one-record}
 use Rattle.records.specs.Records.{markAfter, lastAfter, lastOffset, packedAfter, packed, Each, none, more, PacksAll, FirstMalformed}
 use Rattle.records.proofs.Packing as packing
-use Rattle.records.proofs.Packing.{marked, marked-length, marked-packs, first-packed, rest-packed}
+use Rattle.records.proofs.Packing.{marked, marked-length, marked-packs, first-packs, rest-packed}
 
 -- Fronts of one length are one front, and the same stands behind them.
 fronts : (a b c d : List ℕ) → length a ≡ length b → a ++ c ≡ b ++ d → (a ≡ b) × (c ≡ d)
@@ -106,7 +106,7 @@ there : {rs : List Record} (b k at : ℕ) → at ≡ 20 * k → k < length rs �
 there b k at e h none = absurd (omega arith)
 there b zero at e h (more {r = r} {rs = rs} w ws) =
     let z : at ≡ 0 = omega arith in
-    (r, record { mark = markAfter b (r .offset); packs = rw (z, first-packed b r rs) (marked-packs b w) })
+    (r, record { mark = markAfter b (r .offset); packs = rw z (first-packs b r rs w) })
 there b (suc k) at e h (more {r = r} {rs = rs} w ws) =
     let p = there (r .offset) k (20 * k) refl (omega arith) ws in
     (p .0, record { mark = p .1 .mark; packs = rw (behind b r rs at (20 * k) (omega arith)) (p .1 .packs) })
