@@ -33,10 +33,10 @@ fn line_space() -> [u8; 10000]
 }
 
 // Room for all of `stdin`.
-fn cases_space() -> [u8; 262144]
-    ensures { λ r. ⌜ 262144 ≡ length r ⌝ }
+fn cases_space() -> [u8; 524288]
+    ensures { λ r. ⌜ 524288 ≡ length r ⌝ }
 {
-    [0; 262144]
+    [0; 524288]
 }
 
 // Tries a case of records, if the word is one.
