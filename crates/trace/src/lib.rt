@@ -267,14 +267,10 @@ fn fill(text: &[u8], from: usize, version: u64, first: u64, hex: &[u8; 256], out
     while at < text.len() {
         if text[at] == b';' {
             let l = other_at(text, at);
-            match l {
-                Other::Note(after) => {
-                    at = after;
-                }
-                Other::Bad(_) => {
-                    return 0;
-                }
-            }
+            let Other::Note(after) = l else {
+                return 0;
+            };
+            at = after;
         } else {
             base = window_at(text, at, base, &mut w);
             let next = row_at(text, at, version, first + done, base, &w, hex, &mut fields);

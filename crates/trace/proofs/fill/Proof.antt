@@ -26,15 +26,15 @@ fill-spec =
     (λ c. c .before .loop-test .taken)
     (λ c κs. omega (arith, c .before .before .loop-test .taken))
     (λ c. search needs)
+    (λ c. search needs)
+    (λ c. out-length (c .before .before .before .before .before .before .loop .inv .0))
+    (λ c. absurd (never-bad (c .before .before .before .before .before .before .loop .inv .0) (c .before .before .before .before .before .loop-test .taken) (c .before .before .before .if1 .taken) (rw (c .enum-told .given .1) at (c .before .before .other-at .ensures))))
     (λ c. let s = rw (c .before .l .given .1) at (c .before .before .before .other-at .ensures) in let a = s .1 .later in let b = s .1 .within in omega arith)
     (λ c.
     let s = rw (c .before .l .given .1) at (c .before .before .before .other-at .ensures) in
     let i = c .before .before .before .before .before .before .before .loop .inv in
     let a = s .1 .later in
     (stored-note (i .0) (s .0) (s .1) (s .2), i .1, omega (arith, i .2)))
-    (λ c. search needs)
-    (λ c. out-length (c .before .before .before .before .before .before .loop .inv .0))
-    (λ c. absurd (never-bad (c .before .before .before .before .before .before .loop .inv .0) (c .before .before .before .before .before .loop-test .taken) (c .before .before .before .if1 .taken) (rw (c .enum-told .given .1) at (c .before .before .other-at .ensures))))
     (λ c κs. (c .before .before .before .before .loop .inv .1, c .before .before .before .before .loop .inv .2, omega (arith, c .before .before .before .loop-test .taken)))
     (λ c. omega (arith, number-fits (c .before .before .before .before .before .loop .inv .0)))
     (λ c κs. (c .before .before .window-at .ensures, omega (arith, c .before .before .before .before .before .before .loop-test .taken), c .before .before .before .before .before .before .before .before .before .before .before .before .before .pre .1))
