@@ -7,6 +7,7 @@ use ascii_reader::read_ascii;
 use explain::Explained;
 use explain::explain;
 use record::Packed;
+use record::Record;
 use record::Unpacked;
 use record::of_fields;
 use record::pack;
@@ -15,6 +16,7 @@ use trace::Outcome;
 use trace::read;
 use trace_writer::Written;
 use trace_writer::write;
+ghost use mathlib.Core.Path.{_≡_};
 ghost use Rattle.record.specs.Promise.{PackPromise, UnpackPromise};
 ghost use Rattle.record.specs.Record.{recordOf, markIn};
 ghost use Rattle.trace.specs.Promise.{ReadPromise};
@@ -98,12 +100,11 @@ pub extern "C" fn bo_unpack(bytes: &[u8], answer: &mut [u64; 10])
     }
 }
 
-// Number, place. The fields are offset, bus, kind, extended, ID, length, data, mark, each with any value.
-#[no_mangle]
-pub extern "C" fn bo_pack(fields: &[u64; 8], out: &mut [u8], answer: &mut [u64; 2])
-    ensures { λ _. ⌜ PackPromise (recordOf (now (fields .entry))) (markIn (now (fields .entry))) (now (out .entry)) (now (answer .exit)) (now (out .exit)) ⌝ }
+// The record of eight fields, of which the mark is the last.
+fn record_in(fields: &[u64; 8]) -> Record
+    ensures { λ r. ⌜ r ≡ recordOf (now (fields .entry)) ⌝ }
 {
-    let r = of_fields(
+    of_fields(
         &[
             fields[0],
             fields[1],
@@ -113,8 +114,15 @@ pub extern "C" fn bo_pack(fields: &[u64; 8], out: &mut [u8], answer: &mut [u64; 
             fields[5],
             fields[6],
         ],
-    );
-    let a = pack(r, fields[7], out);
+    )
+}
+
+// Number, place. The fields are offset, bus, kind, extended, ID, length, data, mark, each with any value.
+#[no_mangle]
+pub extern "C" fn bo_pack(fields: &[u64; 8], out: &mut [u8], answer: &mut [u64; 2])
+    ensures { λ _. ⌜ PackPromise (recordOf (now (fields .entry))) (markIn (now (fields .entry))) (now (out .entry)) (now (answer .exit)) (now (out .exit)) ⌝ }
+{
+    let a = pack(record_in(fields), fields[7], out);
     match a {
         Packed::Done => {
             *answer = [0, 0];

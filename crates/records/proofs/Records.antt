@@ -81,17 +81,14 @@ none-malformed {rs} h f =
     omega (arith, ap length (z .1), length-append (f .these) (f .after), f .twenty)
 
 -- Behind records, bytes that are no record, or one with a false mark, are the first malformed.
-module _ {before : List Record} (w : Each WellFormed before) {these : List ℕ} (after : List ℕ) where
-  malformed-at : length these ≡ 20 → ((r : Record) → Packs r (markAfter (lastOffset before) (r .offset)) these → ⊥)
-      → FirstMalformed (packed before ++ (these ++ after)) (length before + 1)
-  malformed-at l f = record { before = before; these = these; after = after; bytes = refl; formed = w; twenty = l; malformed = f; at = refl }
+module _ {before : List Record} {s these : List ℕ} (after : List ℕ) (e : s ≡ packed before ++ (these ++ after)) (w : Each WellFormed before) where
+  pub malformed-at : length these ≡ 20 → ((r : Record) → Packs r (markAfter (lastOffset before) (r .offset)) these → ⊥) → FirstMalformed s (length before + 1)
+  malformed-at l f = record { before = before; these = these; after = after; bytes = e; formed = w; twenty = l; malformed = f; at = refl }
 
-  pub malformed-itself : length these ≡ 20 → ((r : Record) (mark : ℕ) → Packs r mark these → ⊥)
-      → FirstMalformed (packed before ++ (these ++ after)) (length before + 1)
+  pub malformed-itself : length these ≡ 20 → ((r : Record) (mark : ℕ) → Packs r mark these → ⊥) → FirstMalformed s (length before + 1)
   malformed-itself l f = malformed-at l (λ r. f r (markAfter (lastOffset before) (r .offset)))
 
-  pub false-mark : {r : Record} {mark : ℕ} → Packs r mark these → mark ≢ markAfter (lastOffset before) (r .offset)
-      → FirstMalformed (packed before ++ (these ++ after)) (length before + 1)
+  pub false-mark : {r : Record} {mark : ℕ} → Packs r mark these → mark ≢ markAfter (lastOffset before) (r .offset) → FirstMalformed s (length before + 1)
   false-mark p d = malformed-at (packed-length p)
       (λ q g. let z = one-marked p g in d (z .1 ∙ ap (λ (x : Record). markAfter (lastOffset before) (x .offset)) (sym (z .0))))
 

@@ -8,6 +8,7 @@ use Rattle.record.specs.declared.Record.{Record}
 use Rattle.record.specs.Record.{WellFormed, Packs}
 use Rattle.records.specs.Records.{markAfter, lastOffset, packed, packedLimit, Each, none, Whole, PacksAll, FirstMalformed}
 use Rattle.records.proofs.Lists.{each-snoc}
+use Rattle.records.proofs.Records.{malformed-at}
 use Rattle.records.proofs.Packing.{last-more, packed-more, packed-none, twenty, next-record}
 
 pub record Through (s : List ℕ) (at k last : ℕ) : Type 0 where
@@ -40,16 +41,7 @@ module _ {s : List ℕ} {at k last : ℕ} (m : Through s at k last) where
 
   -- It is malformed, and the first such,
   pub malformed-next : at + 20 ≤ length s → ((r : Record) → NextIs s at last r → ⊥) → FirstMalformed s (k + 1)
-  malformed-next h f = record {
-    before = m .records;
-    these = take 20 (drop at s);
-    after = drop (at + 20) s;
-    bytes = behind;
-    formed = m .formed;
-    twenty = twenty at s h;
-    malformed = rw (m .latest) at f;
-    at = ap (λ (n : ℕ). n + 1) (m .counted);
-  }
+  malformed-next h f = rw (m .counted) (malformed-at (drop (at + 20) s) behind (m .formed) (twenty at s h) (rw (m .latest) at f))
 
   -- or it is one record more.
   abbrev pub through-more : {r : Record} → at + 20 ≤ length s → NextIs s at last r → Through s (at + 20) (k + 1) (r .offset)

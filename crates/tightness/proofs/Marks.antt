@@ -1,9 +1,9 @@
 -- Marks: wrong answers of `pack` and `unpack`, of whatever gives a list, and of `write` and `export`. Each is refuted over the promise, for every record or
 -- list to which it applies.
 use Prim.Native.Nat.{ℕ, suc, _+_, _*_, _/_, _%_, _≤_, _<_}
-use mathlib.Core.Path.{_≡_, sym, _∙_}
+use mathlib.Core.Path.{_≡_, refl, sym, _∙_}
 use mathlib.Core.Logic.{_≢_}
-use mathlib.Core.List.{List, _∷_, _++_}
+use mathlib.Core.List.{List, [], _∷_, _++_}
 use native.Mathlib.Omega.{arith}
 use lib.ListN.{length, getD, take, drop}
 use Rattle.record.specs.declared.Record.{Record}
@@ -73,33 +73,47 @@ module _ {rs : List Record} {s : List ℕ} (h : PacksAll rs s) where
         → mark ≡ markAfter (x .offset) (q .offset) → Packs q mark (take 20 (drop (20 * suc i) s)) → ⊥
     compared-with-another x d e g = d (sym e ∙ mark-told h i p g)
 
--- write and export: 23 at another record than the first that is malformed by itself or by its mark
-module _ {s before after ns : List ℕ} {place p : ℕ} (f : FirstMalformed s place) (d : p ≢ place) where
-  pub another-record-written : {version start first : ℕ} → WritePromise version start first s before (23 ∷ p ∷ ns) after → ⊥
-  another-record-written e = d (malformed-one (writing.answered-23 e) f)
+  -- write and export: 23 for such a list
+  module _ {before after ns : List ℕ} {p : ℕ} where
+    pub good-list-not-written : {version start first : ℕ} → WritePromise version start first s before (23 ∷ p ∷ ns) after → ⊥
+    good-list-not-written e = none-malformed h (writing.answered-23 e)
 
-  pub another-record-exported : {start channel : ℕ} → ExportPromise start channel s before (23 ∷ p ∷ ns) after → ⊥
-  another-record-exported e = d (malformed-one (exporting.answered-23 e) f)
+    pub good-list-not-exported : {start channel : ℕ} → ExportPromise start channel s before (23 ∷ p ∷ ns) after → ⊥
+    good-list-not-exported e = none-malformed h (exporting.answered-23 e)
+
+-- write and export: a list in which some record is malformed, by itself or by its mark, taken; and 23 at another record than the first such
+module _ {s before after : List ℕ} {place : ℕ} (f : FirstMalformed s place) where
+  pub malformed-written : {version start first p n : ℕ} → WritePromise version start first s before (0 ∷ p ∷ n ∷ []) after → ⊥
+  malformed-written e =
+      let w = writing.written (done e refl) in
+      none-malformed (record { formed = w .1 .formed; bytes = w .2 }) f
+
+  pub malformed-exported : {start channel : ℕ} {ns : List ℕ} → ExportPromise start channel s before (0 ∷ ns) after → ⊥
+  malformed-exported e = none-malformed (exporting.accepted e .given .packs) f
+
+  pub another-record-written : {version start first p : ℕ} {ns : List ℕ} → p ≢ place → WritePromise version start first s before (23 ∷ p ∷ ns) after → ⊥
+  another-record-written d e = d (malformed-one (writing.answered-23 e) f)
+
+  pub another-record-exported : {start channel p : ℕ} {ns : List ℕ} → p ≢ place → ExportPromise start channel s before (23 ∷ p ∷ ns) after → ⊥
+  another-record-exported d e = d (malformed-one (exporting.answered-23 e) f)
 
 -- so at a false mark behind a record that is malformed by itself, wherever both stand; what follows the first of them is any bytes
 module _ {front : List Record} (w : Each WellFormed front) {these : List ℕ} (l : length these ≡ 20) (m : (r : Record) (mark : ℕ) → Packs r mark these → ⊥)
     (rest : List ℕ) {before after ns : List ℕ} {later : ℕ} (h : length front + 1 < later) where
   pub false-mark-first-written : {version start first : ℕ} → WritePromise version start first (packed front ++ (these ++ rest)) before (23 ∷ later ∷ ns) after → ⊥
-  false-mark-first-written = another-record-written (malformed-itself w rest l m) (λ e. omega arith)
+  false-mark-first-written = another-record-written (malformed-itself rest refl w l m) (λ e. omega arith)
 
   pub false-mark-first-exported : {start channel : ℕ} → ExportPromise start channel (packed front ++ (these ++ rest)) before (23 ∷ later ∷ ns) after → ⊥
-  false-mark-first-exported = another-record-exported (malformed-itself w rest l m) (λ e. omega arith)
+  false-mark-first-exported = another-record-exported (malformed-itself rest refl w l m) (λ e. omega arith)
 
 -- A list with a false mark is refused, wherever it stands and whatever follows.
 falsely : {s : List ℕ} (x : FalselyMarked s) → FirstMalformed s (length (x .before) + 1)
-falsely x = rw (x .whole) (false-mark (x .formed) (x .after) (x .packs) (x .not-true))
+falsely x = false-mark (x .after) (x .whole) (x .formed) (x .packs) (x .not-true)
 
 pub writes-falsely : {g : Writer} → KeepsWrite g → WritesFalsely g → ⊥
 writes-falsely k x =
-    let w = writing.written (done (k .keeps (x .version) (x .start) (x .first) (x .given) (x .out)) (x .accepted)) in
-    none-malformed (record { formed = w .1 .formed; bytes = w .2 }) (falsely (x .marked))
+    malformed-written (falsely (x .marked)) (rw (x .accepted) at (k .keeps (x .version) (x .start) (x .first) (x .given) (x .out)))
 
 pub exports-falsely : {e : Exporter} → KeepsExport e → ExportsFalsely e → ⊥
 exports-falsely k x =
-    let a = exporting.accepted (rw (x .accepted) at (k .keeps (x .start) (x .channel) (x .given) (x .out))) in
-    none-malformed (a .given .packs) (falsely (x .marked))
+    malformed-exported (falsely (x .marked)) (rw (x .accepted) at (k .keeps (x .start) (x .channel) (x .given) (x .out)))

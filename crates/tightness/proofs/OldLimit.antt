@@ -12,7 +12,6 @@ use Rattle.record.specs.declared.Record.{Record}
 use Rattle.record.specs.Record.{WellFormed}
 use Rattle.records.specs.Records.{Each, more, packed, PacksAll}
 use Rattle.records.proofs.Lists.{each-append}
-use Rattle.records.proofs.Records.{none-malformed}
 use Rattle.row.specs.Versions.{Version}
 use Rattle.trace.specs.Trace.{FirstNumber, traceOf}
 use Rattle.trace.specs.House.{traceText, Carried, Writable}
@@ -21,9 +20,7 @@ use Rattle.trace.specs.Promise as reading
 use Rattle.trace.proofs.Answers.{not-refused}
 use Rattle.trace.proofs.There.{there}
 use Rattle.trace_writer.specs.Promise.{WritePromise}
-use Rattle.trace_writer.proofs.Answers as writing
 use Rattle.ascii.specs.Promise.{lineOf, ExportPromise}
-use Rattle.ascii.proofs.Answers as exporting
 use Rattle.ascii.proofs.Channels.{same-channel}
 use Rattle.ascii_line_reader.specs.AsciiLine.{withOffset, instant}
 use Rattle.ascii_reader.specs.Text.{over, cut, SpellsAscii}
@@ -32,6 +29,7 @@ use Rattle.ascii_reader.specs.Promise as returning
 use Rattle.ascii_reader.proofs.OwnLines.{Dated, line-back}
 use Rattle.ascii_reader.proofs.Stops as stops
 use Rattle.tightness.proofs.LongOffsets.{every-offset}
+use Rattle.tightness.proofs.Marks.{good-list-not-written, good-list-not-exported}
 use Rattle.tightness.proofs.ReadingAscii.{other-records}
 
 -- Records, one of them with this offset.
@@ -44,12 +42,12 @@ module _ {r : Record} (w : WellFormed r) (o : ℕ) (h : o < 2 ^ 48) (front back 
 
   -- export: 23
   pub old-limit-in-export : {start channel p : ℕ} {before after ns : List ℕ} → ExportPromise start channel (packed list) before (23 ∷ p ∷ ns) after → ⊥
-  old-limit-in-export e = none-malformed given (exporting.answered-23 e)
+  old-limit-in-export = good-list-not-exported given
 
   module _ {version start first : ℕ} where
     -- write: 23
     pub old-limit-in-write : {p : ℕ} {before after ns : List ℕ} → WritePromise version start first (packed list) before (23 ∷ p ∷ ns) after → ⊥
-    old-limit-in-write e = none-malformed given (writing.answered-23 e)
+    old-limit-in-write = good-list-not-written given
 
     -- read: 7, or any other refusal of a line, for the house spelling of them
     module _ (v : Version version) (l : start ≤ startLimit) (n : FirstNumber first (length list)) (c : Carried version list) where

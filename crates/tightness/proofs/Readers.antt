@@ -54,7 +54,7 @@ room one = omega arith
 room no-bus = omega arith
 room stepping = omega arith
 
--- Two records that differ are packed as other bytes, whatever their marks.
+-- Two records that differ are packed as other bytes.
 apart : marked 0 (received12 0 2) ≡ marked 0 (received12 0 1) → ⊥
 apart e =
     let z = one-record (marked-packs 0 (received-formed 0 2 (omega arith) (omega arith))) (rw (← e) at (marked-packs 0 (received-formed 0 1 (omega arith) (omega arith)))) in

@@ -7,13 +7,6 @@ pub bo-pack-spec : {M : Type 1} → statement M
 bo-pack-spec =
     tie.close
     (tie.spec
-    (λ c. search needs)
-    (λ c. search needs)
-    (λ c. search needs)
-    (λ c. search needs)
-    (λ c. search needs)
-    (λ c. search needs)
-    (λ c. search needs)
     (λ c κs. search needs)
     (λ c. search needs)
     (λ c κs. search needs)
@@ -21,8 +14,8 @@ bo-pack-spec =
     (λ c. search needs)
     (λ c. search needs)
     (λ c. search needs)
-    (λ c. rw (c .before .enum-told .given .1, c .before .before .before .before .before .before .before .before .of-fields .ensures) at (c .before .before .before .before .before .pack .ensures))
+    (λ c. let p = c .before .before .before .before .before in rw (c .before .enum-told .given .1, p .before .before .before .record-in .ensures) at (p .pack .ensures))
     (λ c. search needs)
-    (λ c. rw (c .before .enum-told2 .given .1, c .before .before .before .before .before .before .before .before .of-fields .ensures) at (c .before .before .before .before .before .pack .ensures))
+    (λ c. let p = c .before .before .before .before .before in rw (c .before .enum-told2 .given .1, p .before .before .before .record-in .ensures) at (p .pack .ensures))
     (λ c. search needs)
-    (λ c. rw (c .before .enum-told3 .given .1, c .before .before .before .before .before .before .before .before .of-fields .ensures) at (c .before .before .before .before .before .pack .ensures)))
+    (λ c. let p = c .before .before .before .before .before in rw (c .before .enum-told3 .given .1, p .before .before .before .record-in .ensures) at (p .pack .ensures)))
