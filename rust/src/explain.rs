@@ -1,5 +1,7 @@
 //! What is wrong with a line that is no row.
 
+use crate::line::{cut, parts};
+use crate::quoted::Quoted;
 use crate::refused::accepted;
 use crate::{numbers, read, read_to_vec, Column, Reason, Refused, MOST_ROWS};
 use std::fmt;
@@ -114,6 +116,7 @@ pub fn explain_refusal(text: &[u8], refused: Refused) -> Option<RowExplanation<'
         return None;
     }
     let (before, line) = cut(text, refused.place)?;
+    let line = line.strip_suffix(b"\r\n")?;
     let (trace, _) = read_to_vec(before).ok()?;
     // Where no row stands before, both are 0: any number will do.
     let number = trace.first + trace.rows as u64;
@@ -130,22 +133,10 @@ pub fn explain_refusal(text: &[u8], refused: Refused) -> Option<RowExplanation<'
     })
 }
 
-/// The lines before a line of a text, and that line without its CR LF.
-fn cut(text: &[u8], line: u64) -> Option<(&[u8], &[u8])> {
-    let lines_before = usize::try_from(line.checked_sub(1)?).ok()?;
-    let mut lines = text.split_inclusive(|byte| *byte == b'\n');
-    let before = lines.by_ref().take(lines_before).map(<[u8]>::len).sum();
-    let line = lines.next()?.strip_suffix(b"\r\n")?;
-    Some((&text[..before], line))
-}
-
 /// What is wrong with a line that is no row.
 fn fault_of(line: &[u8], version: u32, number: u64) -> Option<RowFault<'_>> {
     let Explanation { reason, field } = explain(line, version, number).ok()?;
-    let fields: Vec<&[u8]> = line
-        .split(|byte| *byte == b' ')
-        .filter(|field| !field.is_empty())
-        .collect();
+    let fields = parts(line);
     match reason {
         RowReason::WrongField => {
             let at = usize::try_from(field.checked_sub(1)?).ok()?;
@@ -216,26 +207,5 @@ impl fmt::Display for RowExplanation<'_> {
                 )
             }
         }
-    }
-}
-
-/// The most bytes of a field that are shown.
-const SHOWN: usize = 40;
-
-/// Bytes in quotes.
-struct Quoted<'a>(&'a [u8]);
-
-impl fmt::Display for Quoted<'_> {
-    fn fmt(&self, f: &mut fmt::Formatter) -> fmt::Result {
-        write!(f, "\"")?;
-        for byte in self.0.iter().take(SHOWN) {
-            if byte.is_ascii_graphic() && !matches!(byte, b'"' | b'\\') {
-                write!(f, "{}", char::from(*byte))?;
-            } else {
-                write!(f, "\\x{byte:02X}")?;
-            }
-        }
-        let cut = if self.0.len() > SHOWN { "..." } else { "" };
-        write!(f, "\"{cut}")
     }
 }

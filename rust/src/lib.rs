@@ -42,8 +42,10 @@
 mod boundary;
 mod column;
 mod explain;
+mod line;
 mod marks;
 pub mod numbers;
+mod quoted;
 mod record;
 mod refused;
 
