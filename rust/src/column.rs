@@ -37,13 +37,25 @@ pub enum Column {
 }
 
 impl Column {
-    /// What comes next behind these fields, with which some row of this version begins.
-    pub(crate) fn behind(version: u32, fields: &[&[u8]]) -> Column {
+    /// The columns that every row of this version has.
+    fn head(version: u32) -> &'static [Column] {
         use Column::{Bus, Id, Length, Number, Offset, Type};
-        let head: &[Column] = match version {
+        match version {
             11 => &[Number, Offset, Type, Id, Length],
             _ => &[Number, Offset, Bus, Type, Id, Length],
-        };
+        }
+    }
+
+    /// Which of these fields of a row is its type; empty where they end before.
+    pub(crate) fn type_among<'a>(version: u32, fields: &[&'a [u8]]) -> &'a [u8] {
+        let columns = Column::head(version).iter().zip(fields);
+        let mut types = columns.filter(|(column, _)| **column == Column::Type);
+        types.next().map_or(b"", |(_, field)| field)
+    }
+
+    /// What comes next behind these fields, with which some row of this version begins.
+    pub(crate) fn behind(version: u32, fields: &[&[u8]]) -> Column {
+        let head = Column::head(version);
         if let Some(column) = head.get(fields.len()) {
             return *column;
         }

@@ -1,10 +1,12 @@
 //! What is wrong with a line that is no row.
 
-use crate::line::{cut, parts};
+use crate::expected::{in_column, ANY_NUMBER, NO_ROW};
+use crate::line::{cut, parts, place_of, places};
 use crate::quoted::Quoted;
 use crate::refused::accepted;
 use crate::{numbers, read, read_to_vec, Column, Reason, Refused, MOST_ROWS};
 use std::fmt;
+use std::ops::Range;
 
 /// The reasons why a line is no row, each with its number.
 #[derive(Clone, Copy, Debug, PartialEq, Eq, Hash)]
@@ -69,6 +71,8 @@ pub fn explain(line: &[u8], version: u32, number: u64) -> Result<Explanation, Re
 pub struct RowExplanation<'a> {
     /// The line, from 1.
     pub line: u64,
+    /// The line without its CR LF.
+    pub bytes: &'a [u8],
     /// The version of the text: 11 for 1.1, 12 for 1.2.
     pub version: u32,
     /// The number that the row must have, one more than the row before it; 0 where none stands before it, and the number
@@ -97,6 +101,47 @@ pub enum RowFault<'a> {
     NoNumberLeft,
 }
 
+impl RowExplanation<'_> {
+    /// Where in [`bytes`](Self::bytes) stands what is wrong: the wrong field. Where the row ended early, it is the empty
+    /// range behind the last field, before any blanks; `0..0` if the line is empty or blank. With no number left it is the
+    /// whole line.
+    ///
+    /// ```
+    /// use bushingowl::{explain_refusal, read_to_vec};
+    /// let text = b";$FILEVERSION=1.1\r\n;$STARTTIME=36585.5\r\n 1) 2.5  Rx 08FF 0\r\n";
+    /// let explanation = explain_refusal(text, read_to_vec(text).unwrap_err()).unwrap();
+    /// assert_eq!(explanation.place(), 12..16);
+    /// assert_eq!(explanation.bytes[explanation.place()], *b"08FF");
+    /// ```
+    pub fn place(&self) -> Range<usize> {
+        let end = places(self.bytes).last().map_or(0, |last| last.end);
+        match self.fault {
+            RowFault::WrongField { field, .. } => place_of(self.bytes, field).unwrap_or(end..end),
+            RowFault::EndedEarly { .. } => end..end,
+            RowFault::NoNumberLeft => 0..self.bytes.len(),
+        }
+    }
+
+    /// What was expected in that place, in words.
+    ///
+    /// ```
+    /// use bushingowl::{explain_refusal, read_to_vec};
+    /// let text = b";$FILEVERSION=1.1\r\n;$STARTTIME=36585.5\r\n1) 2.5 Error 0003 4\r\n";
+    /// let explanation = explain_refusal(text, read_to_vec(text).unwrap_err()).unwrap();
+    /// assert_eq!(explanation.to_string(), "field 4 (ID) is wrong: \"0003\"");
+    /// assert_eq!(explanation.expected(), "0001, 0002, 0004 or 0008");
+    /// ```
+    pub fn expected(&self) -> String {
+        let column = match self.fault {
+            RowFault::WrongField { column, .. } => column,
+            RowFault::EndedEarly { next, .. } => next,
+            RowFault::NoNumberLeft => return NO_ROW.to_string(),
+        };
+        let kind = Column::type_among(self.version, &parts(self.bytes));
+        in_column(column, self.version, self.number, kind)
+    }
+}
+
 /// Tells what is wrong with the line at which [`read`] or [`read_to_vec`] refused a text with 7. It reads the lines before
 /// for the version and the number that the row must have.
 ///
@@ -110,23 +155,25 @@ pub enum RowFault<'a> {
 /// assert_eq!((explanation.line, explanation.version, explanation.number), (4, 12, 2));
 /// assert_eq!(explanation.fault, RowFault::WrongField { field: 6, column: Column::Length, bytes: b"9" });
 /// assert_eq!(explanation.to_string(), "field 6 (length) is wrong: \"9\"");
+/// assert_eq!(explanation.expected(), "a length from 0 to 8");
 /// ```
 pub fn explain_refusal(text: &[u8], refused: Refused) -> Option<RowExplanation<'_>> {
     if refused.reason != Reason::NoRow || read(text, &mut []) != Err(refused) {
         return None;
     }
     let (before, line) = cut(text, refused.place)?;
-    let line = line.strip_suffix(b"\r\n")?;
+    let bytes = line.strip_suffix(b"\r\n")?;
     let (trace, _) = read_to_vec(before).ok()?;
     // Where no row stands before, both are 0: any number will do.
     let number = trace.first + trace.rows as u64;
     let fault = if number > MOST_ROWS as u64 {
         RowFault::NoNumberLeft
     } else {
-        fault_of(line, trace.version, number)?
+        fault_of(bytes, trace.version, number)?
     };
     Some(RowExplanation {
         line: refused.place,
+        bytes,
         version: trace.version,
         number,
         fault,
@@ -158,7 +205,7 @@ fn fault_of(line: &[u8], version: u32, number: u64) -> Option<RowFault<'_>> {
 
 impl fmt::Display for RowExplanation<'_> {
     fn fmt(&self, f: &mut fmt::Formatter) -> fmt::Result {
-        let number = self.number;
+        let expected = self.expected();
         match self.fault {
             RowFault::WrongField {
                 field,
@@ -167,30 +214,19 @@ impl fmt::Display for RowExplanation<'_> {
             } => {
                 let bytes = Quoted(bytes);
                 match column {
-                    Column::Number if number == 0 => {
-                        write!(
-                            f,
-                            "field {field} ({column}) is wrong: {bytes} instead of a number from 1 to 999999 and \")\""
-                        )
-                    }
-                    Column::Number => {
-                        write!(
-                            f,
-                            "field {field} ({column}) is wrong: {bytes} instead of \"{number})\""
-                        )
-                    }
+                    Column::Number => write!(
+                        f,
+                        "field {field} ({column}) is wrong: {bytes} instead of {expected}"
+                    ),
                     Column::End => write!(f, "field {field} is one too many: {bytes}"),
                     _ => write!(f, "field {field} ({column}) is wrong: {bytes}"),
                 }
             }
             RowFault::EndedEarly {
                 column: None, next, ..
-            } => match number {
-                0 => write!(
-                    f,
-                    "the line is empty: a {next} from 1 to 999999 and \")\" was expected"
-                ),
-                _ => write!(f, "the line is empty: {next} \"{number})\" was expected"),
+            } => match self.number {
+                0 => write!(f, "the line is empty: a row {ANY_NUMBER} was expected"),
+                _ => write!(f, "the line is empty: {next} {expected} was expected"),
             },
             RowFault::EndedEarly {
                 field,
@@ -201,10 +237,7 @@ impl fmt::Display for RowExplanation<'_> {
                 "the row ended early after field {field} ({column}): {next} was expected next"
             ),
             RowFault::NoNumberLeft => {
-                write!(
-                    f,
-                    "row number 999999 stands before it, and no row may follow"
-                )
+                f.write_str("row number 999999 stands before it, and no row may follow")
             }
         }
     }

@@ -6,8 +6,9 @@
 //! [`read_to_vec`], [`write_to_vec`], [`export_to_vec`] and [`read_ascii_to_vec`] allocate what they hand out. [`read`],
 //! [`write()`], [`export`] and [`read_ascii`] take the output from the caller, and allocate nothing: if accepted, it
 //! begins with the bytes written and behind them holds what it held before; if refused, all of it does. [`unpack`] and
-//! [`pack`] are for single records. [`explain_refusal`] tells which field of a refused row is wrong, and [`explain()`]
-//! does so for a single line. [`numbers`] has the same functions with the plain numbers of the C boundary.
+//! [`pack`] are for single records. [`explain_refusal`] tells which field of a refused row is wrong, where it stands and
+//! what was expected there; [`explain()`] tells the field of a single line. [`numbers`] has the same functions with the
+//! plain numbers of the C boundary.
 //!
 //! A start counts milliseconds from 30 December 1899, 0:00, in the local time of the logger (1 January 1970 is day
 //! 25,569), and is at most [`MOST_START`]. An offset counts microseconds from the start, and is at most [`MOST_OFFSET`].
@@ -41,6 +42,7 @@
 
 mod boundary;
 mod column;
+mod expected;
 mod explain;
 mod line;
 mod marks;

@@ -397,6 +397,7 @@ fn the_line_of_a_refusal() {
     };
     let expected = RowExplanation {
         line: 4,
+        bytes: b"2) 1500.250 2 Tx 18AB0001 1",
         version: 12,
         number: 2,
         fault,
@@ -421,11 +422,68 @@ fn comments_count_as_lines_and_not_as_rows() {
     };
     let expected = RowExplanation {
         line: 8,
+        bytes: b"  4) 0.0 Rx 0123 0",
         version: 11,
         number: 3,
         fault,
     };
     assert_eq!(explained(text.as_bytes()), expected);
+}
+
+#[test]
+fn the_place_in_the_line() {
+    #[rustfmt::skip]
+    let cases = [
+        ("3) 0.000 1 Rx 0123 0", 0..2),
+        ("   02) 0.000 1 Rx 0123 0", 3..6),
+        ("2)  0.0  1 Rx 0123 0", 4..7),
+        ("2) 0.000 1 Rx 0123 9 9", 19..20),
+        ("2) 0.000 1 Rx 0123 0   0A  ", 23..25),
+        ("2) 0.000 1 Warng FFFFFFFF 4 00 00 00 08 AB A1", 43..45),
+        // Fields with the same bytes.
+        ("2) 0.000 1 1 1", 11..12),
+        ("2) 0.000 1 Rx 0123 1 00 00", 24..26),
+        // A tab is no blank.
+        ("2)\t0.000 1 Rx 0123 0", 0..8),
+        // Where it ended early.
+        ("2)", 2..2),
+        ("  2)  0.000  ", 11..11),
+        ("2) 0.000 1 Rx 0123 2 0A ", 23..23),
+        ("", 0..0),
+        ("   ", 0..0),
+    ];
+    for (line, place) in cases {
+        let text = format!("{}{}{line}\r\n;\r\n", head(12), row_1(12));
+        let said = explained(text.as_bytes());
+        assert_eq!(said.bytes, line.as_bytes());
+        assert_eq!(said.place(), place, "{line}");
+    }
+}
+
+#[test]
+fn made_by_hand_it_has_a_place_and_words() {
+    let (column, next) = (Column::Id, Column::Data { byte: 0, of: 255 });
+    #[rustfmt::skip]
+    let faults = [
+        RowFault::WrongField { field: 0, column, bytes: b"x" },
+        RowFault::WrongField { field: 3, column: next, bytes: b"x" },
+        RowFault::WrongField { field: u64::MAX, column, bytes: b"x" },
+        RowFault::EndedEarly { field: u64::MAX, column: None, next },
+        RowFault::NoNumberLeft,
+    ];
+    for fault in faults {
+        for bytes in [&b""[..], b"  ", b" 1) 0.0 "] {
+            let said = RowExplanation {
+                line: 0,
+                bytes,
+                version: u32::MAX,
+                number: u64::MAX,
+                fault,
+            };
+            assert!(bytes.get(said.place()).is_some());
+            assert!(!said.expected().is_empty() && !said.to_string().is_empty());
+        }
+    }
 }
 
 #[test]
@@ -533,6 +591,7 @@ fn after_the_last_row() {
             let said = explained(&text);
             let expected = RowExplanation {
                 line: rows as u64 + 4,
+                bytes: line.as_bytes(),
                 version: 11,
                 number: 1_000_000,
                 fault: RowFault::NoNumberLeft,
@@ -542,7 +601,31 @@ fn after_the_last_row() {
                 said.to_string(),
                 "row number 999999 stands before it, and no row may follow"
             );
+            assert_eq!(said.place(), 0..line.len());
+            assert_eq!(said.expected(), "a comment, or the end of the file");
         }
+    }
+}
+
+/// Holds what is said to the line: the field is the one that is counted, and stands in its place.
+fn holds_its_place(said: &RowExplanation, line: &[u8]) {
+    assert_eq!(said.bytes, line);
+    let place = said.place();
+    let fields: Vec<&[u8]> = line
+        .split(|byte| *byte == b' ')
+        .filter(|field| !field.is_empty())
+        .collect();
+    match said.fault {
+        RowFault::WrongField { field, bytes, .. } => {
+            assert_eq!(fields[field as usize - 1], bytes);
+            assert_eq!(line[place], *bytes);
+        }
+        RowFault::EndedEarly { field, .. } => {
+            assert_eq!(fields.len() as u64, field);
+            assert!(place.is_empty());
+            assert_eq!(line[..place.end], *line.trim_ascii_end());
+        }
+        RowFault::NoNumberLeft => panic!(),
     }
 }
 
@@ -564,22 +647,11 @@ fn whatever_the_bytes_are() {
             assert_eq!(said.is_some(), own.number() == 7);
             let Some(said) = said else { continue };
             sevens += 1;
-            assert!(said.to_string().is_ascii());
+            assert!(said.to_string().is_ascii() && said.expected().is_ascii());
             let line = text
                 .split(|byte| *byte == b'\n')
                 .nth(own.place as usize - 1);
-            let line = line.unwrap().strip_suffix(b"\r").unwrap();
-            let fields: Vec<&[u8]> = line
-                .split(|byte| *byte == b' ')
-                .filter(|field| !field.is_empty())
-                .collect();
-            match said.fault {
-                RowFault::WrongField { field, bytes, .. } => {
-                    assert_eq!(fields[field as usize - 1], bytes)
-                }
-                RowFault::EndedEarly { field, .. } => assert_eq!(fields.len() as u64, field),
-                RowFault::NoNumberLeft => panic!(),
-            }
+            holds_its_place(&said, line.unwrap().strip_suffix(b"\r").unwrap());
         }
     }
     assert!(sevens > 1000, "{sevens}");
