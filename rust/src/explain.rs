@@ -4,7 +4,7 @@ use crate::expected::{in_column, ANY_NUMBER, NO_ROW};
 use crate::line::{cut, parts, place_of, places};
 use crate::quoted::Quoted;
 use crate::refused::accepted;
-use crate::{numbers, read, read_to_vec, Column, Reason, Refused, MOST_ROWS};
+use crate::{numbers, read, room_for_rows, Column, Reason, Refused, MOST_ROWS};
 use std::fmt;
 use std::ops::Range;
 
@@ -142,8 +142,8 @@ impl RowExplanation<'_> {
     }
 }
 
-/// Tells what is wrong with the line at which [`read`] or [`read_to_vec`] refused a text with 7. It reads the lines before
-/// for the version and the number that the row must have.
+/// Tells what is wrong with the line at which [`read`] or [`read_to_vec`](crate::read_to_vec) refused a text with 7. It
+/// reads the lines before for the version and the number that the row must have.
 ///
 /// `None` for any other refusal, and for one that this text does not get.
 ///
@@ -158,12 +158,35 @@ impl RowExplanation<'_> {
 /// assert_eq!(explanation.expected(), "a length from 0 to 8");
 /// ```
 pub fn explain_refusal(text: &[u8], refused: Refused) -> Option<RowExplanation<'_>> {
+    explain_refusal_with(text, refused, &mut room_for_rows(text))
+}
+
+/// The same, with room that the caller lends for the records of the lines before, as [`read`] takes it. What it holds
+/// afterwards is not said.
+///
+/// `None` also with too little room.
+///
+/// ```
+/// use bushingowl::{explain_refusal, explain_refusal_with, read, RECORD};
+/// let text = b";$FILEVERSION=1.1\r\n;$STARTTIME=36585.5\r\n1) 2.5 Rx 07FF 0\r\n2) 2.5 Rx 07FF\r\n";
+/// let mut records = [0; RECORD];
+/// let refused = read(text, &mut records).unwrap_err();
+/// let explanation = explain_refusal_with(text, refused, &mut records);
+/// assert_eq!(explanation.unwrap().number, 2);
+/// assert_eq!(explanation, explain_refusal(text, refused));
+/// assert_eq!(explain_refusal_with(text, refused, &mut records[1..]), None);
+/// ```
+pub fn explain_refusal_with<'a>(
+    text: &'a [u8],
+    refused: Refused,
+    records: &mut [u8],
+) -> Option<RowExplanation<'a>> {
     if refused.reason != Reason::NoRow || read(text, &mut []) != Err(refused) {
         return None;
     }
     let (before, line) = cut(text, refused.place)?;
     let bytes = line.strip_suffix(b"\r\n")?;
-    let (trace, _) = read_to_vec(before).ok()?;
+    let trace = read(before, records).ok()?;
     // Where no row stands before, both are 0: any number will do.
     let number = trace.first + trace.rows as u64;
     let fault = if number > MOST_ROWS as u64 {

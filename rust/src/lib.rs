@@ -7,8 +7,8 @@
 //! [`write()`], [`export`] and [`read_ascii`] take the output from the caller, and allocate nothing: if accepted, it
 //! begins with the bytes written and behind them holds what it held before; if refused, all of it does. [`unpack`] and
 //! [`pack`] are for single records. [`explain_refusal`] tells which field of a refused row is wrong, where it stands and
-//! what was expected there; [`explain()`] tells the field of a single line. [`numbers`] has the same functions with the
-//! plain numbers of the C boundary.
+//! what was expected there; [`explain_refusal_with`] does so in room that the caller lends, and [`explain()`] tells the
+//! field of a single line. [`numbers`] has the same functions with the plain numbers of the C boundary.
 //!
 //! A start counts milliseconds from 30 December 1899, 0:00, in the local time of the logger (1 January 1970 is day
 //! 25,569), and is at most [`MOST_START`]. An offset counts microseconds from the start, and is at most [`MOST_OFFSET`].
@@ -52,7 +52,10 @@ mod record;
 mod refused;
 
 pub use column::Column;
-pub use explain::{explain, explain_refusal, Explanation, RowExplanation, RowFault, RowReason};
+pub use explain::{
+    explain, explain_refusal, explain_refusal_with, Explanation, RowExplanation, RowFault,
+    RowReason,
+};
 pub use marks::mark_steps;
 pub use record::{Kind, Record};
 pub use refused::{Reason, Refused};
@@ -202,8 +205,7 @@ pub fn read(text: &[u8], out: &mut [u8]) -> Result<Read, Refused> {
 /// # Ok::<(), bushingowl::Refused>(())
 /// ```
 pub fn read_to_vec(text: &[u8]) -> Result<(Read, Vec<u8>), Refused> {
-    let rows = (text.len() / LEAST_ROW).min(MOST_ROWS);
-    let mut records = vec![0; rows * RECORD];
+    let mut records = room_for_rows(text);
     let trace = read(text, &mut records)?;
     records.truncate(trace.rows * RECORD);
     Ok((trace, records))
@@ -430,4 +432,10 @@ pub fn pack(record: &Record, out: &mut [u8]) -> Result<(), Refused> {
 /// How many records there can be: bytes of more than [`MOST_ROWS`] are refused whatever the room.
 fn record_count(records: &[u8]) -> usize {
     (records.len() / RECORD).min(MOST_ROWS)
+}
+
+/// Room for the records of a trace text.
+fn room_for_rows(text: &[u8]) -> Vec<u8> {
+    let rows = (text.len() / LEAST_ROW).min(MOST_ROWS);
+    vec![0; rows * RECORD]
 }

@@ -1,8 +1,9 @@
 //! What is wrong with a line that is no row. The field numbers come from the rules of the columns, counted by hand.
 
 use bushingowl::{
-    explain, explain_refusal, pack, read, write_to_vec, Column, Explanation, Kind, Reason, Record,
-    Refused, RowExplanation, RowFault, RowReason, MOST_ROWS, MOST_TEXT, RECORD,
+    explain, explain_refusal, explain_refusal_with, pack, read, write_to_vec, Column, Explanation,
+    Kind, Reason, Record, Refused, RowExplanation, RowFault, RowReason, MOST_ROWS, MOST_TEXT,
+    RECORD,
 };
 
 const SMALL: &[u8] = include_bytes!("../../samples/small.trc");
@@ -563,6 +564,34 @@ fn only_the_refusal_7_of_this_text() {
     above[..WRONG_ROW.len()].copy_from_slice(WRONG_ROW);
     assert_eq!(explain_refusal(&above, no_row(4)), None);
     assert!(explain_refusal(&above[..MOST_TEXT], no_row(4)).is_some());
+}
+
+#[test]
+fn with_room_that_is_lent() {
+    let row = |number| format!("{number}) 0.0 Rx 0123 0\r\n");
+    for count in [0, 1, 2, 100] {
+        let before: String = (1..=count).map(row).collect();
+        let text = format!("{}{before};\r\nx\r\n{before}", head(11));
+        let text = text.as_bytes();
+        let own = read(text, &mut []).unwrap_err();
+        let said = explain_refusal(text, own);
+        assert!(said.is_some());
+        // As much as the rows before the line have, whatever it held; more; less.
+        let room = count * RECORD;
+        for room in [room, room + 1, room + 100] {
+            assert_eq!(explain_refusal_with(text, own, &mut vec![0xEE; room]), said);
+        }
+        for room in 0..room {
+            assert_eq!(explain_refusal_with(text, own, &mut vec![0xEE; room]), None);
+        }
+        for reason in Reason::ALL {
+            for place in [0, own.place - 1, own.place, own.place + 1] {
+                let refused = Refused { reason, place };
+                let said = explain_refusal_with(text, refused, &mut vec![0; room]);
+                assert_eq!(said.is_some(), refused == own);
+            }
+        }
+    }
 }
 
 #[test]
