@@ -21,7 +21,7 @@
 //!
 //! In a list each record has a mark that tells whether its offset is below that of the record before it
 //! ([`Record::mark`]). [`read`] and [`read_ascii`] set the marks, and [`write()`] and [`export`] check them. Who makes a
-//! list of copied records, some of them or in another order, sets them anew by [`mark_steps`].
+//! list of copied records, some of them or in another order, sets them anew by [`mark_steps`]. [`count_steps`] counts them.
 //!
 //! A line of Telemotive ASCII has a channel, 0 to [`MOST_CHANNEL`]. Bus 1 to 16 is exported as the channel of its number,
 //! and bus 0, which means none, as the channel that the caller gives: [`CHANNEL_AS_BENCH`], or another one to tell two
@@ -56,7 +56,7 @@ pub use explain::{
     explain, explain_refusal, explain_refusal_with, Explanation, RowExplanation, RowFault,
     RowReason,
 };
-pub use marks::mark_steps;
+pub use marks::{count_steps, mark_steps};
 pub use record::{Kind, Record};
 pub use refused::{Reason, Refused};
 

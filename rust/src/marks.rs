@@ -1,4 +1,4 @@
-//! The marks of a list that is built from copied records.
+//! The marks of a list: how many are set, and setting them where it is built from copied records.
 
 use crate::{pack, record_count, unpack, Reason, Record, Refused, RECORD};
 
@@ -46,4 +46,28 @@ pub fn mark_steps(records: &mut [u8]) -> Result<(), Refused> {
         before = record.offset;
     }
     Ok(())
+}
+
+/// The bit of a record's last byte that is its mark.
+const MARK: u8 = 32;
+
+/// How many records of a list have their mark set ([`Record::mark`]): in a list that was read, how many steps back it has.
+///
+/// It takes any bytes, and looks at nothing but the marks. Those behind the last whole record do not count.
+///
+/// ```
+/// use bushingowl::{count_steps, read_to_vec, RECORD};
+/// let text = b";$FILEVERSION=1.1\r\n;$STARTTIME=36585.5\r\n\
+///     1) 2.5 Rx 0123 0\r\n2) 2.4 Rx 0124 0\r\n3) 2.4 Rx 0125 0\r\n4) 0.0 Rx 0126 0\r\n";
+/// let (trace, records) = read_to_vec(text)?;
+/// assert_eq!(trace.step_back, Some(2));
+/// assert_eq!(count_steps(&records), 2);
+/// assert_eq!(count_steps(&records[..4 * RECORD - 1]), 1);
+/// # Ok::<(), bushingowl::Refused>(())
+/// ```
+pub fn count_steps(records: &[u8]) -> usize {
+    let records = records.chunks_exact(RECORD);
+    records
+        .filter(|record| record[RECORD - 1] & MARK != 0)
+        .count()
 }

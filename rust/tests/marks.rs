@@ -1,9 +1,9 @@
-//! The marks of records: set by both readers, checked by both writers, either one in a single record, and set anew in a
-//! list of copied records.
+//! The marks of records: set by both readers, checked by both writers, either one in a single record, set anew in a list
+//! of copied records, and counted.
 
 use bushingowl::{
-    mark_steps, numbers, pack, read_ascii_to_vec, read_to_vec, unpack, write_to_vec, ReadAscii,
-    Reason, Record, Refused, CHANNEL_AS_BUS, MOST_OFFSET, MOST_ROWS, MOST_START, RECORD,
+    count_steps, mark_steps, numbers, pack, read_ascii_to_vec, read_to_vec, unpack, write_to_vec,
+    ReadAscii, Reason, Record, Refused, CHANNEL_AS_BUS, MOST_OFFSET, MOST_ROWS, MOST_START, RECORD,
 };
 
 /// 29 February 2000, noon.
@@ -457,4 +457,40 @@ fn are_not_set_in_what_is_no_list() {
         let several = [&wrong[..k * RECORD], &[0xFF; 2 * RECORD]].concat();
         is_not_marked(&several, Reason::NotWellFormed, k as u64 + 1);
     }
+}
+
+#[test]
+fn are_counted() {
+    let set = |marks: &[bool]| marks.iter().filter(|mark| **mark).count();
+    assert_eq!(count_steps(&[]), 0);
+    for marks in all_marks() {
+        let records = list(&[0; 4], &marks);
+        assert_eq!(count_steps(&records), set(&marks_of(&records)));
+        // Bytes behind the last whole record do not count.
+        for bytes in 0..=records.len() {
+            let whole = &marks[..bytes / RECORD];
+            assert_eq!(count_steps(&records[..bytes]), set(whole));
+        }
+    }
+    for (offsets, marks) in patterns() {
+        let (_, records) = read_to_vec(text(&offsets).as_bytes()).unwrap();
+        assert_eq!(count_steps(&records), set(&marks), "{offsets:?}");
+    }
+}
+
+#[test]
+fn are_counted_by_their_bit_alone() {
+    // Every bit of a record, and all others.
+    for at in 0..RECORD {
+        for bit in (0..8).map(|power| 1 << power) {
+            let is_mark = (at, bit) == (LAST, MARK);
+            let alone = turned(&[0; RECORD], &[(at, bit)]);
+            assert_eq!(count_steps(&alone), usize::from(is_mark));
+            let others = turned(&[0xFF; RECORD], &[(at, bit)]);
+            assert_eq!(count_steps(&others), usize::from(!is_mark));
+        }
+    }
+    // More records than a list may have.
+    let records = list(&[0, 0], &[false, true]).repeat(MOST_ROWS);
+    assert_eq!(count_steps(&records), MOST_ROWS);
 }
