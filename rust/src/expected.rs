@@ -1,6 +1,6 @@
 //! What may stand in a place, in words.
 
-use crate::Column;
+use crate::{AsciiFault, AsciiPart, Column, MOST_OFFSET};
 
 /// Behind "a" or "a row": what the row number may be where no row stands before.
 pub(crate) const ANY_NUMBER: &str = "number from 1 to 999999 and \")\"";
@@ -51,4 +51,42 @@ fn in_error_frame(byte: u8) -> &'static str {
         2 => "a bit stream position, 02 to 0F, 11, 12, 13 or 17 to 1C",
         _ => "an error counter of two hexadecimal digits",
     }
+}
+
+/// What may stand in a line of Telemotive ASCII in place of what is wrong.
+pub(crate) fn instead_of(fault: AsciiFault) -> String {
+    let words = match fault {
+        AsciiFault::NotEnded => "CR LF or LF",
+        AsciiFault::TooLong => "at most 250 bytes",
+        AsciiFault::WrongPart { part, .. } => return in_part(part),
+        AsciiFault::EndedEarly { next, .. } => return in_part(next),
+        AsciiFault::Empty => return in_part(AsciiPart::Date),
+        AsciiFault::BlankBefore => "the date, with no blank before it",
+        AsciiFault::BlankBehind | AsciiFault::OneTooMany { .. } => "the end of the line",
+        AsciiFault::BeforeStart => "a stamp not before that of line 1, cut to the millisecond",
+        AsciiFault::TooFarBehindStart => {
+            return format!(
+                "a stamp at most {MOST_OFFSET} microseconds behind that of line 1, cut to the millisecond"
+            );
+        }
+    };
+    words.to_string()
+}
+
+/// What may stand in a part of a line of Telemotive ASCII.
+fn in_part(part: AsciiPart) -> String {
+    let words = match part {
+        AsciiPart::Date => "a date that exists, from 30.12.1899 to 13.10.2173",
+        AsciiPart::Time => "a time from 00:00:00.0000 to 23:59:59.9999",
+        AsciiPart::Type => "CAN or CANExt",
+        AsciiPart::Channel => "a channel from #0 to #16",
+        AsciiPart::Bar => "|",
+        AsciiPart::Extended => "EXTENDED",
+        AsciiPart::Direction => "Rx or Tx",
+        AsciiPart::Id { extended: false } => "an ID of three hexadecimal digits up to 7ff",
+        AsciiPart::Id { extended: true } => "an ID of eight hexadecimal digits up to 1fffffff",
+        AsciiPart::Length => "a length from 0 to 8",
+        AsciiPart::Data { .. } => return format!("{part}: {BYTE}"),
+    };
+    words.to_string()
 }

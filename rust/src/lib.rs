@@ -8,7 +8,8 @@
 //! begins with the bytes written and behind them holds what it held before; if refused, all of it does. [`unpack`] and
 //! [`pack`] are for single records. [`explain_refusal`] tells which field of a refused row is wrong, where it stands and
 //! what was expected there; [`explain_refusal_with`] does so in room that the caller lends, and [`explain()`] tells the
-//! field of a single line. [`numbers`] has the same functions with the plain numbers of the C boundary.
+//! field of a single line. [`explain_ascii_refusal`] tells the same of a refused line of Telemotive ASCII. [`numbers`] has
+//! the functions of the library with the plain numbers of the C boundary.
 //!
 //! A start counts milliseconds from 30 December 1899, 0:00, in the local time of the logger (1 January 1970 is day
 //! 25,569), and is at most [`MOST_START`]. An offset counts microseconds from the start, and is at most [`MOST_OFFSET`].
@@ -40,10 +41,12 @@
 //! # Ok::<(), bushingowl::Refused>(())
 //! ```
 
+mod ascii_part;
 mod boundary;
 mod column;
 mod expected;
 mod explain;
+mod explain_ascii;
 mod line;
 mod marks;
 pub mod numbers;
@@ -51,11 +54,13 @@ mod quoted;
 mod record;
 mod refused;
 
+pub use ascii_part::AsciiPart;
 pub use column::Column;
 pub use explain::{
     explain, explain_refusal, explain_refusal_with, Explanation, RowExplanation, RowFault,
     RowReason,
 };
+pub use explain_ascii::{explain_ascii_refusal, AsciiExplanation, AsciiFault};
 pub use marks::{count_steps, mark_steps};
 pub use record::{Kind, Record};
 pub use refused::{Reason, Refused};

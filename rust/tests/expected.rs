@@ -1,7 +1,10 @@
 //! What was expected in a wrong field, in words. That they are true is tried: each spelling that they name is taken in
 //! that place, and those just beyond are not.
 
+mod words;
+
 use bushingowl::{explain_refusal, read, RowExplanation, RowFault, RowReason};
+use words::bytes;
 
 /// Lines 1 and 2 of a text, and row 1, behind which row 2 is expected.
 fn before(version: u32, number: u64) -> String {
@@ -18,7 +21,7 @@ fn before(version: u32, number: u64) -> String {
 fn explained(text: &[u8]) -> Option<RowExplanation<'_>> {
     let refused = read(text, &mut [0; 100]).err()?;
     assert_eq!(refused.number(), 7);
-    explain_refusal(text, refused)
+    Some(explain_refusal(text, refused).unwrap())
 }
 
 /// The reason and the field of what is said.
@@ -28,21 +31,6 @@ fn reason(said: &RowExplanation) -> (RowReason, u64) {
         RowFault::EndedEarly { field, .. } => (RowReason::EndedEarly, field),
         RowFault::NoNumberLeft => panic!("no row before it has the last number"),
     }
-}
-
-/// The spellings that words name: what has a digit or a capital, but for "ID" and the number of a data byte.
-fn named(words: &str) -> Vec<String> {
-    let mut words = words.replace("an ID", "");
-    for of in 1..=8 {
-        for byte in 1..=of {
-            words = words.replace(&format!("data byte {byte} of {of}"), "");
-        }
-    }
-    words
-        .split([' ', ',', '"'])
-        .filter(|word| word.contains(|byte: char| byte.is_ascii_digit() || byte.is_uppercase()))
-        .map(str::to_string)
-        .collect()
 }
 
 /// A place in a row: the fields before it, and what is said to be expected there.
@@ -66,22 +54,9 @@ fn place(version: u32, fields: &'static str, words: &'static str) -> Place {
 }
 
 impl Place {
-    /// Holds the place to fields that are taken there and to such that are refused. All that the words name are among the
-    /// first.
+    #[track_caller]
     fn hold(&self, taken: &str, refused: &str) {
-        for field in taken.split(' ') {
-            assert!(self.takes(field), "{} {field}", self.fields);
-        }
-        for field in refused.split(' ') {
-            assert!(!self.takes(field), "{} {field}", self.fields);
-        }
-        for spelling in named(self.words) {
-            let bracket = format!("{spelling})");
-            let tried = taken
-                .split(' ')
-                .any(|field| field == spelling || field == bracket);
-            assert!(tried, "{spelling} of: {}", self.words);
-        }
+        words::hold(self.words, taken, refused, |field| self.takes(field));
         self.ends_early();
     }
 
@@ -122,16 +97,6 @@ impl Place {
             assert_eq!(said.expected(), self.words, "{text}");
         }
     }
-}
-
-/// Every byte of two digits, in either letter case: those that are good, and the others with what is no byte.
-fn bytes(good: impl Fn(u8) -> bool) -> (String, String) {
-    let (mut taken, mut refused) = (vec![], vec!["0 000 0G G0 +1 0x WORD".to_string()]);
-    for byte in 0..=u8::MAX {
-        let list = if good(byte) { &mut taken } else { &mut refused };
-        list.extend([format!("{byte:02X}"), format!("{byte:02x}")]);
-    }
-    (taken.join(" "), refused.join(" "))
 }
 
 #[test]
@@ -234,7 +199,7 @@ fn a_length() {
 #[test]
 fn rtr_or_a_data_byte() {
     let (taken, refused) = bytes(|_| true);
-    let (taken, refused) = (format!("RTR {taken}"), format!("rtr RT RTRR {refused}"));
+    let (taken, refused) = (format!("RTR {taken}"), format!("rtr RT {refused}"));
     #[rustfmt::skip]
     let places = [
         place(11, "2) 0.0 Rx 0123 1", "RTR, or data byte 1 of 1: two hexadecimal digits"),

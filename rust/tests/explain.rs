@@ -626,10 +626,8 @@ fn after_the_last_row() {
                 fault: RowFault::NoNumberLeft,
             };
             assert_eq!(said, expected);
-            assert_eq!(
-                said.to_string(),
-                "row number 999999 stands before it, and no row may follow"
-            );
+            let words = "row number 999999 stands before it, and no row may follow";
+            assert_eq!(said.to_string(), words);
             assert_eq!(said.place(), 0..line.len());
             assert_eq!(said.expected(), "a comment, or the end of the file");
         }
