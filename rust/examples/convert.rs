@@ -7,8 +7,8 @@
 //! Ends with 0 if the trace or the lines were exported, 1 if they were refused, and 2 if it could not be done.
 
 use bushingowl::{
-    explain_refusal, export_to_vec, read_ascii_to_vec, read_to_vec, Reason, Refused,
-    CHANNEL_AS_BENCH, CHANNEL_AS_BUS, MOST_CHANNEL, MOST_OFFSET, MOST_ROWS, MOST_TEXT,
+    explain_ascii_refusal, explain_refusal, export_to_vec, read_ascii_to_vec, read_to_vec, Reason,
+    Refused, CHANNEL_AS_BENCH, CHANNEL_AS_BUS, MOST_CHANNEL, MOST_ROWS, MOST_TEXT,
 };
 use std::ffi::{OsStr, OsString};
 use std::fs::File;
@@ -123,116 +123,15 @@ fn respell(text: &[u8]) -> Result<Vec<u8>, Refused> {
 fn ascii_refusal(text: &[u8], refused: Refused) -> Vec<u8> {
     let why = match refused.reason {
         Reason::TextTooLong => format!("the text has more than {MOST_TEXT} bytes"),
-        Reason::NoAsciiLine => no_line(text, refused.place),
-        Reason::BeforeStart => "its stamp lies before the start, that of line 1 cut to the millisecond".to_string(),
-        Reason::OffsetTooLarge => format!("its stamp lies more than {MOST_OFFSET} microseconds behind the start, that of line 1 cut to the millisecond"),
         Reason::TooManyLines => format!("there are more than {MOST_ROWS} lines"),
-        // Records just read are not refused, and there is room for them.
-        _ => refused.to_string(),
+        _ => match explain_ascii_refusal(text, refused) {
+            Some(explanation) => explanation.to_string(),
+            // Records just read are not refused, and there is room for them.
+            None => refused.to_string(),
+        },
     };
     let (number, place) = (refused.number(), refused.place);
     format!("refused {number} at line {place}\r\n{why}\r\n").into_bytes()
-}
-
-/// What is wrong with the line at which a text was refused with 31.
-fn no_line(text: &[u8], place: u64) -> String {
-    let mut lines = text.split_inclusive(|byte| *byte == b'\n');
-    let line = lines.nth(place as usize - 1).unwrap_or_default();
-    let Some(line) = line.strip_suffix(b"\n") else {
-        return "the line is not ended by CR LF or LF".to_string();
-    };
-    let line = line.strip_suffix(b"\r").unwrap_or(line);
-    if line.len() > 250 {
-        return "the line has more than 250 bytes".to_string();
-    }
-    let parts: Vec<&[u8]> = line
-        .split(|byte| *byte == b' ')
-        .filter(|part| !part.is_empty())
-        .collect();
-    if let Some(wrong) = (0..parts.len()).find(|at| !begins_line(&parts[..=*at])) {
-        let (number, bytes) = (wrong + 1, quoted(parts[wrong]));
-        return match next_part(&parts[..wrong]) {
-            Some((name, _)) => format!("part {number} ({name}) is wrong: {bytes}"),
-            None => format!("part {number} is one too many: {bytes}"),
-        };
-    }
-    let Some((next, _)) = next_part(&parts) else {
-        return "a blank stands before the first part or behind the last".to_string();
-    };
-    let before = parts.split_last().and_then(|(_, before)| next_part(before));
-    match before {
-        None => format!("the line is empty: {next} was expected"),
-        Some((last, _)) => {
-            let number = parts.len();
-            format!("the line ended early after part {number} ({last}): {next} was expected next")
-        }
-    }
-}
-
-/// The parts of a line up to its length, with a standard ID and with an extended one: the name of each, and one that is good there.
-const STANDARD: [(&str, &str); 8] = [
-    ("date", "30.12.1899"),
-    ("time", "00:00:00.0000"),
-    ("message type", "CAN"),
-    ("channel", "#1"),
-    ("bar", "|"),
-    ("direction", "Rx"),
-    ("ID", "000"),
-    ("length", "0"),
-];
-const EXTENDED: [(&str, &str); 9] = [
-    ("date", "30.12.1899"),
-    ("time", "00:00:00.0000"),
-    ("message type", "CANExt"),
-    ("channel", "#1"),
-    ("bar", "|"),
-    ("EXTENDED", "EXTENDED"),
-    ("direction", "Rx"),
-    ("ID", "00000000"),
-    ("length", "0"),
-];
-
-/// What comes next behind parts with which a line begins: its name, and one that is good there. Nothing behind the last.
-fn next_part(parts: &[&[u8]]) -> Option<(String, &'static str)> {
-    let head: &[(&str, &str)] = match parts {
-        [_, _, b"CANExt", ..] => &EXTENDED,
-        _ => &STANDARD,
-    };
-    if let Some((name, good)) = head.get(parts.len()) {
-        return Some((name.to_string(), good));
-    }
-    let of = match parts[head.len() - 1] {
-        [digit @ b'0'..=b'8'] => usize::from(digit - b'0'),
-        _ => 0,
-    };
-    let byte = parts.len() - head.len() + 1;
-    (byte <= of).then(|| (format!("data byte {byte} of {of}"), "00"))
-}
-
-/// Whether some line begins with these parts: the library takes them with good ones behind.
-fn begins_line(parts: &[&[u8]]) -> bool {
-    let mut line = parts.to_vec();
-    while let Some((_, good)) = next_part(&line) {
-        line.push(good.as_bytes());
-    }
-    // Before LF alone a CR of the line would be part of its end.
-    let text = [&line.join(&b' ')[..], b"\r\n"].concat();
-    read_ascii_to_vec(&text).is_ok()
-}
-
-/// At most 40 bytes of a part, in quotes. What can't be seen is shown as its number.
-fn quoted(part: &[u8]) -> String {
-    let shown: String = part
-        .iter()
-        .take(40)
-        .map(|byte| match byte {
-            b'"' | b'\\' => format!("\\x{byte:02X}"),
-            _ if byte.is_ascii_graphic() => char::from(*byte).to_string(),
-            _ => format!("\\x{byte:02X}"),
-        })
-        .collect();
-    let cut = if part.len() > 40 { "..." } else { "" };
-    format!("\"{shown}\"{cut}")
 }
 
 fn print(output: &[u8]) -> io::Result<()> {
