@@ -16,12 +16,12 @@ pub(crate) fn in_column(column: Column, version: u32, number: u64, kind: &[u8]) 
         (Column::Number, _) if number == 0 => return format!("a {ANY_NUMBER}"),
         (Column::Number, _) => return format!("\"{number})\""),
         (Column::Offset, _) if version == 11 => {
-            "milliseconds with one digit behind the point, up to 281474976710.6"
+            "milliseconds without leading zeros, with one digit behind the point, up to 281474976710.6"
         }
         (Column::Offset, _) => {
-            "milliseconds with three digits behind the point, up to 281474976710.655"
+            "milliseconds without leading zeros, with three digits behind the point, up to 281474976710.655"
         }
-        (Column::Bus, _) => "a bus from 1 to 16",
+        (Column::Bus, _) => "a bus from 1 to 16, without leading zeros",
         (Column::Type, _) => "Rx, Tx, Warng or Error",
         (Column::Id, b"Warng") => "FFFFFFFF",
         (Column::Id, b"Error") => "0001, 0002, 0004 or 0008",

@@ -62,6 +62,7 @@ pub use explain::{
 };
 pub use explain_ascii::{explain_ascii_refusal, AsciiExplanation, AsciiFault};
 pub use marks::{count_steps, mark_steps};
+pub use quoted::Quoted;
 pub use record::{Kind, Record};
 pub use refused::{Reason, Refused};
 

@@ -115,12 +115,13 @@ fn a_number() {
 
 #[test]
 fn an_offset() {
-    let words = "milliseconds with one digit behind the point, up to 281474976710.6";
+    let words =
+        "milliseconds without leading zeros, with one digit behind the point, up to 281474976710.6";
     place(11, "2)", words).hold(
         "0.0 0.1 12.5 281474976709.9 281474976710.6",
         "281474976710.7 281474976711.0 999999999999.9 1000000000000.0 0 0. .0 0.00 0.000 00.0 0,0",
     );
-    let words = "milliseconds with three digits behind the point, up to 281474976710.655";
+    let words = "milliseconds without leading zeros, with three digits behind the point, up to 281474976710.655";
     place(12, "2)", words).hold(
         "0.000 0.001 12.500 281474976709.999 281474976710.655",
         "281474976710.656 281474976711.000 999999999999.999 1000000000000.000 0 0. .000 0.0 0.00 \
@@ -131,7 +132,7 @@ fn an_offset() {
 #[test]
 fn a_bus() {
     let taken = "1 2 3 4 5 6 7 8 9 10 11 12 13 14 15 16";
-    let bus = place(12, "2) 0.000", "a bus from 1 to 16");
+    let bus = place(12, "2) 0.000", "a bus from 1 to 16, without leading zeros");
     bus.hold(taken, "0 17 01 016 100 -1 #1 A Rx");
 }
 
