@@ -1,0 +1,96 @@
+//! `owl explain`: what is wrong with a file, shown in its place.
+
+use super::Command;
+use crate::arguments::{Given, Usage};
+use crate::excerpt::excerpt;
+use crate::fault::{self, Fault};
+use crate::options::ASCII;
+use crate::output::{say, Output};
+use crate::room::Room;
+use crate::status::Status;
+use crate::words::{self, many};
+use bushingowl::{read, read_ascii, Refused};
+use std::path::{Path, PathBuf};
+
+pub const COMMAND: Command = Command {
+    name: "explain",
+    files: "FILE",
+    does: "the line at which a trace is refused, and what is wrong with it",
+    about: "\
+Shows the line at which a trace is refused, with its number and a mark under
+what is wrong, the reason in words, and what was expected. Bytes that can't be
+seen are shown as their numbers (a tab is \\x09). With --ascii the file is read
+as lines of Telemotive ASCII.
+
+It needs at most 154 MB of memory: 134,217,729 bytes for a text and 19,999,980
+for its records; less if the file is smaller.",
+    options: &[&ASCII],
+    run,
+};
+
+fn run(given: &Given) -> Result<Status, Usage> {
+    let name = one_file(given)?;
+    let mut room = Room::without_output();
+    if !loaded(&mut room, name) {
+        return Ok(Status::NotDone);
+    }
+    let (text, records) = (room.text.bytes(), &mut room.records);
+    let (found, status) = if given.has(&ASCII) {
+        match read_ascii(text, records) {
+            Ok(lines) => (good(lines.records, "line", "lines"), Status::AllDone),
+            Err(refused) => (
+                explained(refused, fault::of_ascii(text, refused)),
+                Status::SomeRefused,
+            ),
+        }
+    } else {
+        match read(text, records) {
+            Ok(trace) => (good(trace.rows, "row", "rows"), Status::AllDone),
+            Err(refused) => (
+                explained(refused, fault::of_trace(text, refused, records)),
+                Status::SomeRefused,
+            ),
+        }
+    };
+    let mut output = Output::new();
+    output.line(&format!("{}: {found}", words::name(name)));
+    Ok(status.max(output.end()))
+}
+
+/// The one file that is named.
+pub fn one_file(given: &Given) -> Result<&PathBuf, Usage> {
+    match &given.names[..] {
+        [name] => Ok(name),
+        [] => Err(Usage("no file is named".to_string())),
+        _ => Err(Usage("it takes one file".to_string())),
+    }
+}
+
+/// Whether a file could be read; if not, that is said.
+pub fn loaded(room: &mut Room, name: &Path) -> bool {
+    let loaded = room.text.load(name);
+    if let Err(error) = &loaded {
+        let (name, why) = (words::name(name), words::error(error));
+        say(&format!("{name}: can't be read: {why}"));
+    }
+    loaded.is_ok()
+}
+
+fn good(number: usize, one: &str, more: &str) -> String {
+    format!("good, with {}", many(number as u64, one, more))
+}
+
+fn explained(refused: Refused, fault: Option<Fault>) -> String {
+    let Some(fault) = fault else {
+        return refused.to_string();
+    };
+    let Fault {
+        line,
+        bytes,
+        place,
+        why,
+        expected,
+    } = fault;
+    let excerpt = excerpt(line, bytes, &place);
+    format!("{refused}\n\n{excerpt}\n\n{why}\nexpected: {expected}")
+}

@@ -1,0 +1,66 @@
+//! Reading what a room holds, as every command does it.
+
+use crate::fault;
+use crate::jobs::{Made, Refusal};
+use crate::room::Room;
+use bushingowl::{read, read_ascii, unpack, Read, ReadAscii, Refused, RECORD};
+
+/// Reads the text as a trace.
+pub fn trace(room: &mut Room) -> Result<Read, Refusal> {
+    let (text, records) = (room.text.bytes(), &mut room.records);
+    room.library.time(|| {
+        read(text, records).map_err(|refused| Refusal {
+            detail: fault::of_trace(text, refused, records).map(|fault| fault.why),
+            refused,
+        })
+    })
+}
+
+/// Reads the text as lines of Telemotive ASCII.
+pub fn ascii(room: &mut Room) -> Result<ReadAscii, Refusal> {
+    let (text, records) = (room.text.bytes(), &mut room.records);
+    room.library.time(|| {
+        read_ascii(text, records).map_err(|refused| Refusal {
+            detail: fault::of_ascii(text, refused).map(|fault| fault.why),
+            refused,
+        })
+    })
+}
+
+impl Refusal {
+    /// One of which there is no more to say.
+    pub fn alone(refused: Refused) -> Refusal {
+        Refusal {
+            refused,
+            detail: None,
+        }
+    }
+}
+
+impl Made {
+    /// What is known of a trace when it is read.
+    pub fn of(trace: &Read) -> Made {
+        Made {
+            version: Some(trace.version),
+            start: trace.start,
+            first: Some(trace.first),
+            first_step_back: trace.step_back,
+            counts: Default::default(),
+            bytes: 0,
+        }
+    }
+
+    /// What is known of lines of Telemotive ASCII when they are read.
+    pub fn of_ascii(lines: &ReadAscii, records: &[u8]) -> Made {
+        let steps_back = |record| unpack(record).is_ok_and(|record| record.mark);
+        let at = records.chunks(RECORD).position(steps_back);
+        Made {
+            version: None,
+            start: lines.start,
+            first: None,
+            first_step_back: at.map(|at| at + 1),
+            counts: Default::default(),
+            bytes: 0,
+        }
+    }
+}

@@ -1,0 +1,94 @@
+//! Names, numbers and errors as they are shown.
+
+use std::ffi::OsStr;
+use std::fmt::Write;
+use std::io;
+use std::os::unix::ffi::OsStrExt;
+use std::path::Path;
+
+/// A name. Bytes that are no UTF-8 and characters that would move the cursor are shown as their numbers.
+pub fn name(path: &Path) -> String {
+    let mut shown = String::new();
+    for chunk in path.as_os_str().as_bytes().utf8_chunks() {
+        for letter in chunk.valid().chars() {
+            if letter.is_control() {
+                let mut bytes = [0; 4];
+                push_numbers(&mut shown, letter.encode_utf8(&mut bytes).as_bytes());
+            } else {
+                shown.push(letter);
+            }
+        }
+        push_numbers(&mut shown, chunk.invalid());
+    }
+    shown
+}
+
+fn push_numbers(shown: &mut String, bytes: &[u8]) {
+    for byte in bytes {
+        let _ = write!(shown, "\\x{byte:02X}");
+    }
+}
+
+/// A number with its thousands separated.
+pub fn separated(number: u64) -> String {
+    match number / 1000 {
+        0 => number.to_string(),
+        thousands => format!("{},{:03}", separated(thousands), number % 1000),
+    }
+}
+
+/// So many of something: `1 file`, `2 files`.
+pub fn many(number: u64, one: &str, more: &str) -> String {
+    let noun = if number == 1 { one } else { more };
+    format!("{} {noun}", separated(number))
+}
+
+/// The system's words for an error, without its number.
+pub fn error(error: &io::Error) -> String {
+    let said = error.to_string();
+    said.split(" (os error")
+        .next()
+        .unwrap_or_default()
+        .to_string()
+}
+
+/// A version as a trace has it.
+pub fn version(number: u32) -> &'static str {
+    match number {
+        11 => "1.1",
+        _ => "1.2",
+    }
+}
+
+/// The number of a version that is spelled so.
+pub fn version_number(word: &OsStr) -> Option<u32> {
+    match word.as_bytes() {
+        b"1.1" => Some(11),
+        b"1.2" => Some(12),
+        _ => None,
+    }
+}
+
+/// Microseconds as milliseconds.
+pub fn milliseconds(offset: u64) -> String {
+    format!("{}.{:03}", offset / 1000, offset % 1000)
+}
+
+#[cfg(test)]
+mod tests {
+    use super::*;
+
+    #[test]
+    fn names_show_every_byte() {
+        let odd = OsStr::from_bytes(b"a b\xFFc\n\x1b[2J\xC3\xA4");
+        assert_eq!(name(Path::new(odd)), "a b\\xFFc\\x0A\\x1B[2Jä");
+    }
+
+    #[test]
+    fn numbers_are_separated() {
+        let shown = [0, 999, 1000, 1_002_003].map(separated);
+        assert_eq!(shown, ["0", "999", "1,000", "1,002,003"]);
+        assert_eq!(many(1, "file", "files"), "1 file");
+        assert_eq!(many(2000, "file", "files"), "2,000 files");
+    }
+}
