@@ -61,12 +61,21 @@ pub struct Finished {
     pub library: Duration,
 }
 
+impl Finished {
+    pub fn bytes_written(&self) -> usize {
+        match &self.ending {
+            Ending::Done(made) => made.bytes,
+            _ => 0,
+        }
+    }
+}
+
 /// Works on all items, so many side by side, and sends what became of each, in any order.
 pub fn start<'scope>(
     scope: &'scope Scope<'scope, '_>,
     jobs: usize,
     shared: &'scope Shared<'scope>,
-    finished: Sender<Finished>,
+    finished: &Sender<Finished>,
 ) {
     for _ in 0..jobs {
         let finished = finished.clone();

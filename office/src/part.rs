@@ -184,9 +184,11 @@ pub fn sweep(folder: &Path) {
             continue;
         }
         // Some file systems lock only what is open for writing.
-        let file = File::options().write(true).open(entry.path());
-        let left = file.is_ok_and(|file| file.try_lock().is_ok());
-        if left {
+        let Ok(file) = File::options().write(true).open(entry.path()) else {
+            continue;
+        };
+        // The lock is held until the file is gone, so that one who has just made it can't lock it in between.
+        if file.try_lock().is_ok() {
             let _ = fs::remove_file(entry.path());
         }
     }

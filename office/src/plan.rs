@@ -1,5 +1,6 @@
 //! Which files are worked on, and where the output of each goes.
 
+use crate::part::folder_of;
 use crate::walk::{self, ends_so};
 use crate::words;
 use std::collections::{HashMap, HashSet};
@@ -114,48 +115,57 @@ fn found_below(folder: &Path, ending: &str) -> Vec<Source> {
     sources.collect()
 }
 
-/// Gives each file its output. No output is written twice, and none over a file that is to be read; what is named twice is done once.
+/// Gives each file its output. What is named twice is done once; no output is written twice, and none over a file that is to be read.
 fn items(sources: Vec<Source>, naming: Option<&Naming>) -> Vec<Item> {
-    let real_sources: Vec<PathBuf> = sources.iter().map(|source| real(&source.path)).collect();
-    let read: HashSet<&PathBuf> = real_sources.iter().collect();
-    let mut written: HashMap<PathBuf, &PathBuf> = HashMap::new();
+    let paths = sources.iter().map(|source| &source.path);
+    let read: HashSet<PathBuf> = paths.flat_map(|path| [entry(path), real(path)]).collect();
+    let mut named: HashSet<PathBuf> = HashSet::new();
+    let mut written: HashMap<PathBuf, PathBuf> = HashMap::new();
     let mut items = Vec::new();
-    for (source, real_source) in sources.into_iter().zip(&real_sources) {
-        let target = naming.and_then(|naming| naming.target(&source.path, &source.below));
-        let mut trouble = source.trouble;
-        // Where nothing is written, a file stands for itself.
-        let place = target.as_deref().map_or(real_source.clone(), real);
-        if let Some(first) = written.get(&place) {
-            if *first == real_source {
-                continue;
-            }
-            let first = words::name(first);
-            trouble = trouble.or(Some(format!("its output would be that of {first} as well")));
-        } else if target.is_some() && read.contains(&place) {
-            let place = target.as_deref().map(words::name).unwrap_or_default();
-            trouble = trouble.or(Some(format!("its output would be {place}, an input")));
-        } else {
-            written.insert(place, real_source);
+    for Source {
+        path,
+        below,
+        trouble,
+    } in sources
+    {
+        if !named.insert(entry(&path)) {
+            continue;
         }
+        let target = naming.and_then(|naming| naming.target(&path, &below));
+        let clash = target.as_deref().and_then(|target| {
+            let place = entry(target);
+            if let Some(first) = written.get(&place) {
+                let first = words::name(first);
+                return Some(format!("its output would be that of {first} as well"));
+            }
+            if read.contains(&place) {
+                let target = words::name(target);
+                return Some(format!("its output would be {target}, an input"));
+            }
+            written.insert(place, path.clone());
+            None
+        });
         items.push(Item {
-            size: fs::metadata(&source.path).map_or(0, |metadata| metadata.len()),
-            source: source.path,
+            size: fs::metadata(&path).map_or(0, |metadata| metadata.len()),
+            source: path,
             target,
-            trouble,
+            trouble: trouble.or(clash),
         });
     }
     items
 }
 
-/// The one path of a file, whichever way it is named. The file need not be there yet, nor its folder.
-fn real(path: &Path) -> PathBuf {
-    if let Ok(path) = fs::canonicalize(path) {
-        return path;
-    }
-    match (path.parent().map(fs::canonicalize), path.file_name()) {
-        (Some(Ok(folder)), Some(name)) => folder.join(name),
+/// The one path of a name, whichever way it is reached; a link is a name of its own. Neither the file nor its folder need be there yet.
+fn entry(path: &Path) -> PathBuf {
+    match (fs::canonicalize(folder_of(path)), path.file_name()) {
+        (Ok(folder), Some(name)) => folder.join(name),
         _ => std::path::absolute(path).unwrap_or_else(|_| path.to_path_buf()),
     }
+}
+
+/// Where a file really is, links followed.
+fn real(path: &Path) -> PathBuf {
+    fs::canonicalize(path).unwrap_or_else(|_| entry(path))
 }
 
 #[cfg(test)]

@@ -59,13 +59,13 @@ impl Report {
     /// Says what is to be said of a file, and counts it.
     pub fn file(&mut self, item: &Item, finished: &Finished) {
         self.bytes_read += finished.bytes_read as u64;
+        self.bytes_written += finished.bytes_written() as u64;
         self.library += finished.library;
         let name = words::name(&item.source);
         match &finished.ending {
             Ending::Done(made) => {
                 self.done += 1;
                 self.counts.add(&made.counts);
-                self.bytes_written += made.bytes as u64;
             }
             Ending::There(made) => {
                 self.there += 1;
@@ -89,15 +89,9 @@ impl Report {
     }
 
     fn object(&self, item: &Item, finished: &Finished) -> String {
-        let object = Object::new()
-            .name("file", item.source.as_os_str())
-            .plain("bytes_read", finished.bytes_read);
+        let object = Object::new().name("file", item.source.as_os_str());
         let object = match &finished.ending {
-            Ending::Done(made) => {
-                let object = object.text("status", "done");
-                let object = object.plain("bytes_written", made.bytes);
-                self.made(object, item, made)
-            }
+            Ending::Done(made) => self.made(object.text("status", "done"), item, made),
             Ending::There(made) => self.made(object.text("status", "there"), item, made),
             Ending::Refused(Refusal { refused, detail }) => {
                 let object = object
@@ -112,7 +106,10 @@ impl Report {
             }
             Ending::Failed(why) => object.text("status", "failed").text("error", why),
         };
-        object.end()
+        object
+            .plain("bytes_read", finished.bytes_read)
+            .plain("bytes_written", finished.bytes_written())
+            .end()
     }
 
     fn made(&self, object: Object, item: &Item, made: &Made) -> Object {

@@ -19,7 +19,7 @@ impl Room {
     pub fn new(output: Lent) -> Room {
         Room {
             text: Text::new(),
-            records: vec![0; MOST_ROWS * RECORD],
+            records: vec![0; MOST_RECORDS],
             output,
             library: Timer::default(),
         }
@@ -29,6 +29,17 @@ impl Room {
     pub fn without_output() -> Room {
         Room::new(Lent::nothing())
     }
+}
+
+/// The most bytes of the records of a text.
+const MOST_RECORDS: usize = MOST_ROWS * RECORD;
+
+/// Whether the system would give so many rooms with outputs of this size. It is asked for all at once, before the first is made: a vector that can't be had
+/// ends the program.
+pub fn are_had(rooms: usize, most_output: usize) -> bool {
+    let bytes = MOST_TEXT + 1 + MOST_RECORDS + most_output + PAGE;
+    let all = bytes.saturating_mul(rooms);
+    Vec::<u8>::new().try_reserve_exact(all).is_ok()
 }
 
 /// The text of a file.

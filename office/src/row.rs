@@ -47,12 +47,17 @@ impl Row {
         }
     }
 
-    /// The ID as a trace spells it. A warning has none.
+    /// A warning has none.
+    fn has_id(&self) -> bool {
+        self.record.kind != Kind::Warning
+    }
+
+    /// The ID as a trace spells it.
     fn id(&self) -> String {
-        match (self.record.kind, self.record.extended) {
-            (Kind::Warning, _) => String::new(),
-            (_, true) => format!("{:08X}", self.record.id),
-            (_, false) => format!("{:04X}", self.record.id),
+        match self.record.extended {
+            _ if !self.has_id() => String::new(),
+            true => format!("{:08X}", self.record.id),
+            false => format!("{:04X}", self.record.id),
         }
     }
 
@@ -120,7 +125,7 @@ impl Row {
             .maybe("bus", self.bus())
             .text("kind", self.kind())
             .plain("extended", self.record.extended)
-            .plain("id", self.record.id)
+            .maybe("id", self.has_id().then_some(self.record.id))
             .plain("length", self.record.length)
             .text("data", &self.data(""))
             .plain("step_back", self.record.mark)

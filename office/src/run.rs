@@ -8,8 +8,9 @@ use crate::part::{folder_of, sweep};
 use crate::plan::{plan, Item, Naming};
 use crate::progress::{Progress, EVERY};
 use crate::report::{Report, Wording};
+use crate::room;
 use crate::status::Status;
-use crate::words;
+use crate::words::{self, many};
 use std::collections::BTreeSet;
 use std::fs::File;
 use std::io::{self, ErrorKind};
@@ -42,11 +43,17 @@ impl Run<'_> {
         plan.notes.iter().for_each(|note| say(note));
         folders(&plan.items).into_iter().for_each(sweep);
         let jobs = jobs.min(plan.items.len()).max(1);
+        if !room::are_had(jobs, self.work.most_output()) {
+            let jobs = many(jobs as u64, "job", "jobs");
+            say(&format!("there is not enough memory for {jobs}"));
+            return Ok(Status::NotDone);
+        }
         let shared = Shared::new(&plan.items, self.work, given.has(&FORCE));
         let mut report = Report::new(self.wording, given.has(&REPORT_JSON));
         let written = thread::scope(|scope| {
             let (finished, results) = channel();
-            jobs::start(scope, jobs, &shared, finished);
+            jobs::start(scope, jobs, &shared, &finished);
+            drop(finished);
             reported(&plan.items, &results, &mut report)
         });
         let synced = synced(&written);

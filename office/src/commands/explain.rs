@@ -6,7 +6,7 @@ use crate::excerpt::excerpt;
 use crate::fault::{self, Fault};
 use crate::options::ASCII;
 use crate::output::{say, Output};
-use crate::room::Room;
+use crate::room::{are_had, Room};
 use crate::status::Status;
 use crate::words::{self, many};
 use bushingowl::{read, read_ascii, Refused};
@@ -30,10 +30,9 @@ for its records; less if the file is smaller.",
 
 fn run(given: &Given) -> Result<Status, Usage> {
     let name = one_file(given)?;
-    let mut room = Room::without_output();
-    if !loaded(&mut room, name) {
+    let Some(mut room) = loaded(name) else {
         return Ok(Status::NotDone);
-    }
+    };
     let (text, records) = (room.text.bytes(), &mut room.records);
     let (found, status) = if given.has(&ASCII) {
         match read_ascii(text, records) {
@@ -66,14 +65,19 @@ pub fn one_file(given: &Given) -> Result<&PathBuf, Usage> {
     }
 }
 
-/// Whether a file could be read; if not, that is said.
-pub fn loaded(room: &mut Room, name: &Path) -> bool {
-    let loaded = room.text.load(name);
-    if let Err(error) = &loaded {
-        let (name, why) = (words::name(name), words::error(error));
-        say(&format!("{name}: can't be read: {why}"));
+/// A room with a file's text. Where it can't be had, that is said.
+pub fn loaded(name: &Path) -> Option<Room> {
+    if !are_had(1, 0) {
+        say("there is not enough memory");
+        return None;
     }
-    loaded.is_ok()
+    let mut room = Room::without_output();
+    if let Err(error) = room.text.load(name) {
+        let (name, why) = (words::name(name), words::error(&error));
+        say(&format!("{name}: can't be read: {why}"));
+        return None;
+    }
+    Some(room)
 }
 
 fn good(number: usize, one: &str, more: &str) -> String {

@@ -3,7 +3,7 @@
 use crate::fault;
 use crate::jobs::{Made, Refusal};
 use crate::room::Room;
-use bushingowl::{read, read_ascii, unpack, Read, ReadAscii, Refused, RECORD};
+use bushingowl::{read, read_ascii, unpack, Read, ReadAscii, Reason, Refused, RECORD};
 
 /// Reads the text as a trace.
 pub fn trace(room: &mut Room) -> Result<Read, Refusal> {
@@ -21,10 +21,17 @@ pub fn ascii(room: &mut Room) -> Result<ReadAscii, Refusal> {
     let (text, records) = (room.text.bytes(), &mut room.records);
     room.library.time(|| {
         read_ascii(text, records).map_err(|refused| Refusal {
-            detail: fault::of_ascii(text, refused).map(|fault| fault.why),
+            detail: ascii_detail(text, refused),
             refused,
         })
     })
+}
+
+/// What is wrong with a line that is none; for any other refusal its own words say all.
+fn ascii_detail(text: &[u8], refused: Refused) -> Option<String> {
+    let is_none = refused.reason == Reason::NoAsciiLine;
+    let fault = is_none.then(|| fault::of_ascii(text, refused)).flatten();
+    fault.map(|fault| fault.why)
 }
 
 impl Refusal {

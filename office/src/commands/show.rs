@@ -36,10 +36,9 @@ fn run(given: &Given) -> Result<Status, Usage> {
         (false, true) => Form::Json,
         (false, false) => Form::Plain,
     };
-    let mut room = Room::without_output();
-    if !loaded(&mut room, name) {
+    let Some(mut room) = loaded(name) else {
         return Ok(Status::NotDone);
-    }
+    };
     let (held, rows) = match held(&mut room, given.has(&ASCII)) {
         Ok(held) => held,
         Err(refusal) => {
