@@ -1,0 +1,14 @@
+//! The command `owl`, run: a module for each subject.
+
+#[path = "../common/mod.rs"]
+mod common;
+
+mod back;
+mod check;
+mod convert;
+mod explain;
+mod help;
+mod show;
+mod status;
+mod usage;
+mod write;
