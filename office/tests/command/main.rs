@@ -15,6 +15,7 @@ mod names;
 mod outputs;
 mod parts;
 mod progress;
+mod property;
 mod refusals;
 mod show;
 mod standard_output;
