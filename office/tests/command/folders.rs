@@ -197,6 +197,16 @@ fn by_another_name_are_done_once() {
 }
 
 #[test]
+fn by_another_name_are_done_once_though_the_output_would_be_another() {
+    for words in ["convert week week/x/a.trc", "convert week/x/a.trc week"] {
+        let scratch = Scratch::new();
+        scratch.put("week/x/a.trc", rows(1));
+        let ran = scratch.owl(&format!("{words} -o out --json"));
+        assert_eq!(files(&ran.ended(0)), ["week/x/a.trc"], "{words}");
+    }
+}
+
+#[test]
 fn that_are_links_are_not_followed_below() {
     let scratch = Scratch::new();
     scratch.put("week/a.trc", rows(1));

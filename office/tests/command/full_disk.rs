@@ -65,7 +65,11 @@ fn leaves_what_was_to_be_replaced() {
 #[test]
 fn stops_write_and_back_as_well() {
     let scratch = week();
-    let ran = limited(&scratch, "write week/a.trc week/b.trc week/c.trc --json").ended(2);
+    let ran = limited(
+        &scratch,
+        "write --version 1.2 week/a.trc week/b.trc week/c.trc --json",
+    )
+    .ended(2);
     only_b_failed(&ran);
     assert_eq!(scratch.names("week").len(), 5);
     scratch.put("b.asc", export(&rows(10_000)).unwrap());

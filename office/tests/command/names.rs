@@ -171,14 +171,20 @@ fn of_255_bytes_fit_where_the_ending_is_replaced() {
 
 #[test]
 fn of_255_bytes_may_not_fit() {
-    for (command, long) in [
+    for (words, long) in [
         ("convert", "x".repeat(255)),
-        ("write", "x".repeat(251) + ".trc"),
+        ("write --version 1.2", "x".repeat(251) + ".trc"),
+        ("back", "x".repeat(255)),
     ] {
         let scratch = Scratch::new();
-        scratch.put(&long, rows(1));
-        scratch.put("a.trc", rows(1));
-        let ran = scratch.owl_with([command, &long, "a.trc"]).ended(2);
+        let text = if words == "back" {
+            sample("edited.asc")
+        } else {
+            rows(1)
+        };
+        scratch.put(&long, &text);
+        scratch.put("a.trc", &text);
+        let ran = scratch.owl(&format!("{words} {long} a.trc")).ended(2);
         assert!(ran.failure_of(&long).contains("too long"), "{ran}");
         assert_eq!(scratch.names("").len(), 3, "{ran}");
     }

@@ -91,7 +91,7 @@ fn is_replaced_by_force() {
 #[test]
 fn are_kept_and_replaced_by_write_and_back_as_well() {
     for (words, from, to) in [
-        ("write a.trc", "a.trc", "a-1.2.trc"),
+        ("write --version 1.2 a.trc", "a.trc", "a-1.2.trc"),
         ("back a.asc", "a.asc", "a.trc"),
     ] {
         let scratch = Scratch::new();
@@ -239,7 +239,9 @@ fn of_write_that_are_inputs_are_kept() {
     let scratch = Scratch::new();
     scratch.put("a.trc", rows(2));
     scratch.put("a-1.2.trc", rows(3));
-    let ran = scratch.owl("write a.trc a-1.2.trc --force").ended(2);
+    let ran = scratch
+        .owl("write a.trc --version 1.2 a-1.2.trc --force")
+        .ended(2);
     ran.failure_of("a.trc");
     assert!(scratch.bytes("a-1.2.trc") == rows(3));
     assert!(scratch.has("a-1.2-1.2.trc"));

@@ -1,7 +1,7 @@
 //! What an earlier run left half-written is removed by the next one, unless somebody still holds it.
 
 use crate::common::traces::{export, rows};
-use crate::common::Scratch;
+use crate::common::{skip, Scratch};
 use std::fs::File;
 use std::os::unix::fs::symlink;
 use std::path::Path;
@@ -22,7 +22,7 @@ fn of_an_earlier_run_is_removed() {
     for words in [
         "convert week",
         "convert week/a.trc --jobs 4 --force",
-        "write week/a.trc",
+        "write week/a.trc --version 1.2",
     ] {
         let scratch = with_a_part();
         scratch.put("week/.owl-1-99.part", "");
@@ -88,6 +88,25 @@ fn that_is_no_file_is_no_hindrance() {
     assert!(scratch.bytes("week/a.asc") == export(&rows(2)).unwrap());
     assert_eq!(scratch.bytes("week/.owl-2-2.part/inside"), b"mine");
     assert_eq!(scratch.bytes("mine"), b"mine");
+}
+
+#[test]
+fn is_synced_before_it_gets_its_name() {
+    let scratch = Scratch::new();
+    scratch.put("a.trc", rows(2));
+    let trace = "strace -f -o calls -e trace=fsync,fdatasync,link,linkat,rename,renameat,renameat2";
+    if scratch.shell(&format!("{trace} true")).status != 0 {
+        return skip("strace can't be used");
+    }
+    for force in ["", "--force"] {
+        let words = format!("{trace} \"$OWL\" convert a.trc {force}");
+        scratch.shell(&words).ended(0);
+        let calls = String::from_utf8(scratch.bytes("calls")).unwrap();
+        let synced = calls.lines().position(|call| call.contains("sync("));
+        let named = calls.lines().position(|call| call.contains("a.asc"));
+        assert!(named.is_some() && synced.is_some(), "{calls}");
+        assert!(synced < named, "{calls}");
+    }
 }
 
 /// The name of a part in a folder, as soon as there is one.

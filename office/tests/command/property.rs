@@ -15,7 +15,7 @@ fn hold(
     words: &str,
     ending: &str,
     texts: &[Vec<u8>],
-    output: fn(usize, &[u8]) -> String,
+    output: fn(usize) -> String,
     make: fn(&[u8]) -> Made,
 ) {
     let scratch = Scratch::new();
@@ -34,7 +34,7 @@ fn hold(
         agrees(&ran, number, text, &made);
         refused += usize::from(made.is_err());
         if let Ok(bytes) = made {
-            let name = output(number, text);
+            let name = output(number);
             assert!(scratch.bytes(format!("out/{name}")) == bytes, "{name}");
             written.push(name);
         }
@@ -89,34 +89,26 @@ fn of_convert() {
         "convert -o out --json",
         "trc",
         &texts,
-        |number, _| format!("{number:04}.asc"),
+        |number| format!("{number:04}.asc"),
         export,
     );
 }
 
 #[test]
 fn of_write() {
-    let output = |number, text: &[u8]| {
-        let version = read_to_vec(text).unwrap().0.version;
-        format!("{number:04}-1.{}.trc", version - 10)
-    };
+    let output = |number| format!("{number:04}-1.2.trc");
+    let words = "write --version 1.2 -o out --json --jobs 3";
     let texts = texts(0x0172, Random::trace);
-    hold(
-        "write -o out --json --jobs 3",
-        "trc",
-        &texts,
-        output,
-        |text| {
-            let (trace, records) = read_to_vec(text)?;
-            trace.write_to_vec(&records)
-        },
-    );
+    hold(words, "trc", &texts, output, |text| {
+        let (trace, records) = read_to_vec(text)?;
+        write_to_vec(12, trace.start, trace.first, &records)
+    });
 }
 
 #[test]
 fn of_back() {
     let texts = texts(0x0173, |random| export(&random.trace()).unwrap());
-    let output = |number, _: &[u8]| format!("{number:04}.trc");
+    let output = |number| format!("{number:04}.trc");
     hold(
         "back --version 1.2 -o out --json",
         "asc",

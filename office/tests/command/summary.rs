@@ -45,7 +45,10 @@ fn keeps_the_first_count_though_it_is_0() {
     for (words, line) in [
         ("convert week/d.trc", "1 file: 0 converted, 1 refused"),
         ("check week/d.trc", "1 file: 0 good, 1 refused"),
-        ("write week/d.trc", "1 file: 0 written, 1 refused"),
+        (
+            "write --version 1.2 week/d.trc",
+            "1 file: 0 written, 1 refused",
+        ),
         ("back week/d.trc", "1 file: 0 written, 1 refused"),
         ("convert week/c.trc", "1 file: 0 converted, 1 already there"),
     ] {

@@ -12,7 +12,10 @@ fn gives_the_house_spelling() {
         let scratch = Scratch::new();
         let from = format!("{name}.trc");
         scratch.sample(&from);
-        scratch.owl(&format!("write {from}")).ended(0).quietly();
+        scratch
+            .owl(&format!("write {from} --version 1.2"))
+            .ended(0)
+            .quietly();
         let to = format!("{name}-1.2.trc");
         assert_eq!(String::from_utf8(scratch.bytes(&to)).unwrap(), written);
         assert!(scratch.bytes(&from) == sample(&from));
@@ -21,10 +24,15 @@ fn gives_the_house_spelling() {
 }
 
 #[test]
-fn keeps_the_version_of_the_trace() {
+fn keeps_the_version_of_the_trace_where_none_is_given() {
     let scratch = Scratch::new();
     scratch.sample("version-11.trc");
-    scratch.owl("write version-11.trc").ended(0).quietly();
+    scratch.sample("small.trc");
+    scratch
+        .owl("write version-11.trc small.trc")
+        .ended(0)
+        .quietly();
+    assert_eq!(scratch.bytes("small-1.2.trc"), SMALL.as_bytes());
     let written = scratch.bytes("version-11-1.1.trc");
     let (read, records) = bushingowl::read_to_vec(&sample("version-11.trc")).unwrap();
     assert!(written == read.write_to_vec(&records).unwrap());
@@ -39,7 +47,10 @@ fn of_what_was_written_gives_the_same() {
     scratch.put("a.trc", SMALL);
     scratch.owl("write a.trc --version 1.2").ended(0).quietly();
     assert_eq!(scratch.bytes("a-1.2.trc"), SMALL.as_bytes());
-    scratch.owl("write a-1.2.trc").ended(0).quietly();
+    scratch
+        .owl("write a-1.2.trc --version=1.2")
+        .ended(0)
+        .quietly();
     assert_eq!(scratch.bytes("a-1.2-1.2.trc"), SMALL.as_bytes());
 }
 
@@ -71,7 +82,10 @@ fn refuses_a_broken_trace() {
     let scratch = Scratch::new();
     scratch.put("a.trc", trace("1) 0.000 1 Rx 0123 9\r\n"));
     scratch.put("b.trc", rows(1));
-    let ran = scratch.owl("write a.trc b.trc").ended(1).quietly();
+    let ran = scratch
+        .owl("write a.trc b.trc --version 1.2")
+        .ended(1)
+        .quietly();
     assert_eq!(
         ran.line_of("a.trc"),
         "a.trc: line 3 is no row (refusal 7): field 6 (length) is wrong: \"9\""
@@ -90,11 +104,14 @@ fn names_its_outputs() {
         ("d.txt", "d.txt-1.2.trc"),
     ] {
         scratch.put(from, SMALL);
-        scratch.owl_with(["write", from]).ended(0).quietly();
+        scratch
+            .owl_with(["write", "--version", "1.2", from])
+            .ended(0)
+            .quietly();
         assert_eq!(scratch.bytes(to), SMALL.as_bytes(), "{from}");
     }
     scratch
-        .owl("write a.trc -o out/below --json")
+        .owl("write a.trc --version 1.2 -o out/below --json")
         .ended(0)
         .quietly();
     assert_eq!(scratch.names("out/below"), ["a-1.2.trc"]);
@@ -105,7 +122,7 @@ fn takes_no_folder() {
     let scratch = Scratch::new();
     scratch.put("week/a.trc", SMALL);
     scratch.put("b.trc", SMALL);
-    let ran = scratch.owl("write week b.trc").ended(2);
+    let ran = scratch.owl("write week b.trc --version 1.2").ended(2);
     ran.failure_of("week");
     assert_eq!(scratch.names("week"), ["a.trc"]);
     assert!(scratch.has("b-1.2.trc"));
@@ -115,7 +132,10 @@ fn takes_no_folder() {
 fn says_it_as_json() {
     let scratch = Scratch::new();
     scratch.sample("small.trc");
-    let (files, summary) = scratch.owl("write small.trc --json").ended(0).objects();
+    let (files, summary) = scratch
+        .owl("write small.trc --version 1.2 --json")
+        .ended(0)
+        .objects();
     let file = &files[0];
     assert_eq!(file.text("output"), "small-1.2.trc");
     assert_eq!((file.text("status"), file.text("version")), ("done", "1.2"));

@@ -49,7 +49,7 @@ pub struct Broken {
 /// What stands behind the reason.
 #[derive(Clone, Copy)]
 pub enum Detail {
-    Nothing,
+    Any,
     /// Just this.
     Is(&'static str),
     /// Something with all of these words, and none of those.
@@ -61,7 +61,7 @@ impl Broken {
     #[track_caller]
     pub fn detail_is(&self, said: Option<&str>) {
         let good = match (self.detail, said) {
-            (Detail::Nothing, said) => said.is_none(),
+            (Detail::Any, _) => true,
             (_, None) => false,
             (Detail::Is(just), Some(said)) => said == just,
             (Detail::Has(words, others), Some(said)) => {
@@ -159,7 +159,7 @@ fn bodies(long: &str) -> Vec<Broken> {
     let with_dollar = "line 4 is a comment with $ first (refusal 6)";
     let columns = ";\r\n;  $COLUMNS=N,O,T\r\n";
     vec![
-        refused("long.trc", long, 3, 3, too_long, Detail::Nothing),
+        refused("long.trc", long, 3, 3, too_long, Detail::Any),
         refused(
             "dollar.trc",
             columns,
