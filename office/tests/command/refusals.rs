@@ -116,14 +116,14 @@ fn have_a_detail_for_each_end_of_a_line() {
 }
 
 #[test]
-fn for_a_line_that_is_too_long_need_no_detail() {
+fn for_a_line_that_is_too_long_count_its_bytes() {
     let scratch = Scratch::new();
     let line = format!(";{}\r\n", "x".repeat(250));
     scratch.put("a.trc", trace(&line));
     let ran = scratch.owl("check a.trc").ended(1).quietly();
     assert_eq!(
         ran.line_of("a.trc"),
-        "a.trc: line 3 has more than 250 bytes (refusal 3)"
+        "a.trc: line 3 has more than 250 bytes (refusal 3): it has 251 bytes"
     );
 }
 

@@ -24,21 +24,31 @@ fn gives_the_house_spelling() {
 }
 
 #[test]
-fn keeps_the_version_of_the_trace_where_none_is_given() {
+fn gives_a_trace_without_buses_in_its_own_version() {
     let scratch = Scratch::new();
     scratch.sample("version-11.trc");
-    scratch.sample("small.trc");
     scratch
-        .owl("write version-11.trc small.trc")
+        .owl("write version-11.trc --version 1.1")
         .ended(0)
         .quietly();
-    assert_eq!(scratch.bytes("small-1.2.trc"), SMALL.as_bytes());
     let written = scratch.bytes("version-11-1.1.trc");
     let (read, records) = bushingowl::read_to_vec(&sample("version-11.trc")).unwrap();
     assert!(written == read.write_to_vec(&records).unwrap());
     assert!(
         written.starts_with(b";$FILEVERSION=1.1\r\n;$STARTTIME=45231.4166666667\r\n1) 18.2 Rx ")
     );
+}
+
+#[test]
+fn needs_a_version() {
+    let scratch = Scratch::new();
+    scratch.sample("small.trc");
+    let ran = scratch.owl("write small.trc").ended(64);
+    assert!(
+        ran.err().contains("--version 1.1 or --version 1.2"),
+        "{ran}"
+    );
+    assert_eq!(scratch.names("."), ["small.trc"]);
 }
 
 #[test]
