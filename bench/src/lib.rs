@@ -6,3 +6,4 @@ pub mod compare;
 pub mod cpu_time;
 pub mod expert;
 pub mod inputs;
+pub mod week;
