@@ -6,4 +6,5 @@ pub mod compare;
 pub mod cpu_time;
 pub mod expert;
 pub mod inputs;
+pub mod night;
 pub mod week;
