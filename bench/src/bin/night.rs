@@ -120,10 +120,13 @@ fn prepare<'a>(options: &Options, folder: &'a Folder, core: &'a Core) -> Tried<N
     say(format_args!(
         "the disk took them at {speed:.0} MB/s, one file after the other"
     ));
-    say("all are read once, so that each run finds them in memory alike; the second implementation says what must come out");
+    say("the second implementation reads them, and says what must come out");
     let known = known::read(folder.path(), week, made)?;
     let core_words = core.words();
-    say(format_args!("runs on one core have one job and are {core_words}; before each run, what the one before has written is emptied and put aside"));
+    say(format_args!(
+        "runs on one core have one job and are {core_words}"
+    ));
+    say("before each run, what the one before has written is emptied and put aside, and all traces are read once, so that each finds them in memory alike");
     Ok(Night {
         owl: options.owl.clone(),
         folder,

@@ -83,7 +83,7 @@ struct Room {
     lines: Vec<u8>,
 }
 
-/// Reads all files, so that the system has them in memory, and has the second implementation convert them.
+/// Reads all files, and has the second implementation convert them.
 pub fn read(folder: &Path, week: Vec<Plan>, all_made: Vec<Made>) -> Tried<Vec<Known>> {
     let mut room = Room {
         records: vec![0; MOST_ROWS * RECORD],

@@ -4,7 +4,9 @@ use super::folder::Folder;
 use super::known::Known;
 use super::processor::{cores, Core, Spent};
 use super::report::{self, Measured};
-use super::{differs, not_done, outputs, Tried, LINES, TRACES};
+use super::{differs, not_done, outputs, with, Tried, LINES, TRACES};
+use std::fs::File;
+use std::io::Read;
 use std::path::{Path, PathBuf};
 use std::process::{Command, Output};
 use std::time::Instant;
@@ -48,9 +50,25 @@ impl Night<'_> {
         refused.count()
     }
 
+    /// Reads all traces, so that the system has them in memory: what was read since may have taken their place.
+    fn read_all(&self) -> Tried<()> {
+        let mut piece = vec![0; 1 << 20];
+        for known in &self.known {
+            let path = self.folder.path().join(known.trace());
+            let mut read = || {
+                let mut file = File::open(&path)?;
+                while file.read(&mut piece)? > 0 {}
+                Ok(())
+            };
+            read().map_err(with(&path))?;
+        }
+        Ok(())
+    }
+
     /// Runs it on one core or on all, and checks all that it says and leaves.
     pub fn run(&self, one_core: bool) -> Tried<Run> {
         self.folder.put_aside(LINES)?;
+        self.read_all()?;
         let mut command = match one_core {
             true => self.core.command(&self.owl),
             false => Command::new(&self.owl),
