@@ -35,6 +35,19 @@ fn gives_the_samples_back() {
 }
 
 #[test]
+fn and_convert_give_the_samples_in_our_spelling() {
+    for name in ["edited", "no-bus"] {
+        let scratch = Scratch::new();
+        scratch.sample(&format!("{name}.asc"));
+        scratch.owl(&format!("back {name}.asc")).ended(0).quietly();
+        let words = format!("convert {name}.trc --channel 0 -o out");
+        scratch.owl(&words).ended(0).quietly();
+        let spelled = scratch.bytes(format!("out/{name}.asc"));
+        assert!(spelled == sample(&format!("{name}.txt")), "{name}");
+    }
+}
+
+#[test]
 fn finds_the_version_that_carries_the_lines() {
     let scratch = Scratch::new();
     scratch.sample("edited.asc");

@@ -2,11 +2,12 @@
 
 use crate::common::traces::{export, rows};
 use crate::common::{skip, Scratch};
-use std::fs::File;
+use std::fs::{self, File};
 use std::os::unix::fs::symlink;
-use std::path::Path;
+use std::path::{Path, PathBuf};
+use std::process::Child;
 use std::thread::sleep;
-use std::time::{Duration, Instant};
+use std::time::Duration;
 
 const PART: &str = ".owl-12345-0.part";
 
@@ -109,18 +110,55 @@ fn is_synced_before_it_gets_its_name() {
     }
 }
 
-/// The name of a part in a folder, as soon as there is one.
-fn first_part(scratch: &Scratch, folder: &str) -> Option<String> {
-    let until = Instant::now() + Duration::from_secs(5);
-    while Instant::now() < until {
-        let mut names = scratch.names(folder);
-        names.retain(|name| name.ends_with(".part"));
-        if let Some(name) = names.pop() {
+/// The name of the part that a run writes, as soon as there is one. None where it ended before one was seen.
+fn part_of(scratch: &Scratch, run: &mut Child) -> Option<String> {
+    let begin = format!(".owl-{}-", run.id());
+    while run.try_wait().unwrap().is_none() {
+        let mut names = scratch.names("week").into_iter();
+        if let Some(name) = names.find(|name| name.starts_with(&begin)) {
             return Some(name);
         }
         sleep(Duration::from_micros(50));
     }
     None
+}
+
+/// Stops a run. What its threads have begun in the system goes on until then, such as giving a file its name.
+fn stop(scratch: &Scratch, run: &Child) {
+    scratch.shell(&format!("kill -STOP {}", run.id()));
+    let tasks = format!("/proc/{}/task", run.id());
+    let goes_on = |stat: &str| !stat.rsplit(") ").next().unwrap().starts_with(['T', 'Z']);
+    let some_goes_on = || {
+        let tasks = fs::read_dir(&tasks).into_iter().flatten().flatten();
+        let stats = tasks.filter_map(|task| fs::read_to_string(task.path().join("stat")).ok());
+        stats.into_iter().any(|stat| goes_on(&stat))
+    };
+    while some_goes_on() {
+        sleep(Duration::from_millis(1));
+    }
+}
+
+fn is_locked(path: PathBuf) -> bool {
+    File::open(path).is_ok_and(|file| file.try_lock().is_err())
+}
+
+/// Starts a run, and stops it while it writes.
+fn stopped(scratch: &Scratch) -> (Child, PathBuf) {
+    for _ in 0..20 {
+        let mut run = scratch.start("convert week/large.trc --force");
+        let part = part_of(scratch, &mut run).map(|name| Path::new("week").join(name));
+        stop(scratch, &run);
+        match part {
+            Some(part) if is_locked(scratch.path(&part)) => return (run, part),
+            _ => go_on(scratch, run),
+        }
+    }
+    panic!("it was always stopped too late");
+}
+
+fn go_on(scratch: &Scratch, mut run: Child) {
+    scratch.shell(&format!("kill -CONT {}", run.id()));
+    assert!(run.wait().unwrap().success());
 }
 
 #[test]
@@ -129,19 +167,12 @@ fn of_another_run_stays_and_is_completed() {
     scratch.put("week/b.trc", rows(2));
     let large = rows(400_000);
     scratch.put("week/large.trc", &large);
-    let mut other = scratch.start("convert week/large.trc");
-    let part = first_part(&scratch, "week").expect("a part while it is written");
-    let pid = other.id();
-    assert!(part.starts_with(&format!(".owl-{pid}-")), "{part}");
-    scratch.shell(&format!("kill -STOP {pid}")).ended(0);
-    // It may have been done with it just before it was stopped.
-    let stopped_within = scratch.has(Path::new("week").join(&part));
-    scratch.owl("convert week/b.trc").ended(0).quietly();
-    let stayed = scratch.has(Path::new("week").join(&part));
-    scratch.shell(&format!("kill -CONT {pid}")).ended(0);
-    assert!(other.wait().unwrap().success());
-    assert_eq!(stayed, stopped_within);
-    assert!(stopped_within, "it was stopped too late");
+    let (other, part) = stopped(&scratch);
+    let ran = scratch.owl("convert week/b.trc");
+    let stayed = scratch.has(&part);
+    go_on(&scratch, other);
+    assert!(stayed);
+    ran.ended(0).quietly();
     assert!(scratch.bytes("week/large.asc") == export(&large).unwrap());
     assert_eq!(
         scratch.names("week"),

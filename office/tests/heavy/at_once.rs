@@ -19,9 +19,8 @@ fn at_once(scratch: &Scratch, words: &str, later: Duration) -> Vec<Ran> {
             scratch.start(words)
         })
         .collect();
-    runs.into_iter()
-        .map(|run| Ran::of(run.wait_with_output().unwrap()).ended(0).quietly())
-        .collect()
+    let ran = |run: Child| Ran::of(run.wait_with_output().unwrap());
+    runs.into_iter().map(ran).collect()
 }
 
 fn done(runs: &[Ran]) -> f64 {
@@ -35,6 +34,7 @@ fn rounds(words: &str, outputs_of_all: f64) {
             scratch.put(format!("week/{number}.trc"), rows(100));
         }
         let runs = at_once(&scratch, words, Duration::from_micros(300 * round));
+        let runs: Vec<Ran> = runs.into_iter().map(|ran| ran.ended(0).quietly()).collect();
         assert_eq!(done(&runs), outputs_of_all);
         let outputs = scratch.names_but("week", ".trc");
         assert_eq!(outputs.len(), FILES, "{outputs:?}");

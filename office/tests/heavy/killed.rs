@@ -104,15 +104,18 @@ fn ended_in_the_middle(end: fn(&Scratch, &mut Child)) {
     let whole = begin.elapsed();
     week.complete(FILES);
     let (mut parts, mut between) = (0, 0);
-    for moment in 0..MOMENTS {
+    // A busy machine may need more than one round until it is ended in the middle of a file, and between two.
+    for moment in (0..MOMENTS).cycle().take(4 * MOMENTS as usize) {
         let outputs = week.end_at(whole * moment / MOMENTS, end);
         let names = week.scratch.names("week");
         parts += names.iter().filter(|name| name.ends_with(".part")).count();
         between += usize::from(outputs > 0 && outputs < FILES);
         week.complete(outputs);
+        if moment + 1 == MOMENTS && parts > 0 && between > 0 {
+            return;
+        }
     }
-    println!("{parts} parts were left, and {between} times some outputs but not all");
-    assert!(parts > 0 && between > 0, "it was never ended in the middle");
+    panic!("{parts} parts were left, and {between} times some outputs but not all");
 }
 
 #[test]
