@@ -37,6 +37,7 @@ pub fn export_as(text: &[u8], channel: u64) -> Result<Vec<u8>, Refused> {
 }
 
 /// A trace that is refused, with the words that the report has for it.
+#[derive(Clone)]
 pub struct Broken {
     pub name: &'static str,
     pub text: Vec<u8>,
@@ -79,11 +80,7 @@ const NO_START: &str = "line 2 is no ;$STARTTIME= up to day 99,999 (refusal 5)";
 
 /// Refusals 2 to 7, each in several ways. Of 1, see `large.rs`.
 pub fn broken() -> Vec<Broken> {
-    let long = format!(";{}\r\n", "x".repeat(250));
-    [ends(), heads(), bodies(&long)]
-        .into_iter()
-        .flatten()
-        .collect()
+    [ends(), heads(), comments(), no_rows()].concat()
 }
 
 fn ends() -> Vec<Broken> {
@@ -134,40 +131,38 @@ fn heads() -> Vec<Broken> {
     ]
 }
 
-fn bodies(long: &str) -> Vec<Broken> {
-    let refused = |name, lines: &str, number, place, reason, detail| Broken {
+fn comments() -> Vec<Broken> {
+    let comment = |name, lines: String, number, place, reason| Broken {
         name,
-        text: trace(lines),
+        text: trace(&lines),
         number,
         place,
         reason,
-        detail,
+        detail: Detail::Any,
     };
-    let row = "1) 0.000 1 Rx 0123 0\r\n";
-    let no_row = |name, line: &str, detail| {
-        let lines = format!("{row}{line}\r\n");
-        refused(
-            name,
-            &lines,
-            7,
-            4,
-            "line 4 is no row (refusal 7)",
-            Detail::Is(detail),
-        )
-    };
+    let long = format!(";{}\r\n", "x".repeat(250));
     let too_long = "line 3 has more than 250 bytes (refusal 3)";
+    let columns = ";\r\n;  $COLUMNS=N,O,T\r\n".to_string();
     let with_dollar = "line 4 is a comment with $ first (refusal 6)";
-    let columns = ";\r\n;  $COLUMNS=N,O,T\r\n";
     vec![
-        refused("long.trc", long, 3, 3, too_long, Detail::Any),
-        refused(
-            "dollar.trc",
-            columns,
-            6,
-            4,
-            with_dollar,
-            Detail::Has(&[], &[]),
-        ),
+        comment("long.trc", long, 3, 3, too_long),
+        Broken {
+            detail: Detail::Has(&[], &[]),
+            ..comment("dollar.trc", columns, 6, 4, with_dollar)
+        },
+    ]
+}
+
+fn no_rows() -> Vec<Broken> {
+    let no_row = |name, line: &str, detail| Broken {
+        name,
+        text: trace(&format!("1) 0.000 1 Rx 0123 0\r\n{line}\r\n")),
+        number: 7,
+        place: 4,
+        reason: "line 4 is no row (refusal 7)",
+        detail: Detail::Is(detail),
+    };
+    vec![
         no_row(
             "length.trc",
             "2) 1500.250 2 Tx 18AB0001 9",
