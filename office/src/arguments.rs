@@ -1,9 +1,10 @@
 //! What stands on the command line behind a command's name.
 
 use crate::options::Opt;
+use crate::words;
 use std::ffi::{OsStr, OsString};
 use std::os::unix::ffi::OsStrExt;
-use std::path::PathBuf;
+use std::path::{Path, PathBuf};
 
 /// What is wrong with how a command was called.
 #[derive(Debug, PartialEq, Eq)]
@@ -38,12 +39,12 @@ impl Given {
 }
 
 /// Takes the words apart. Options may stand before and behind files; behind `--` all words are files.
-pub fn parse(words: &[OsString], options: &[&'static Opt]) -> Result<Given, Usage> {
+pub fn parse(line: &[OsString], options: &[&'static Opt]) -> Result<Given, Usage> {
     let mut given = Given::default();
-    let mut words = words.iter();
-    while let Some(word) = words.next() {
+    let mut line = line.iter();
+    while let Some(word) = line.next() {
         if word == "--" {
-            given.names.extend(words.by_ref().map(PathBuf::from));
+            given.names.extend(line.by_ref().map(PathBuf::from));
             break;
         }
         if !word.as_bytes().starts_with(b"-") {
@@ -53,7 +54,7 @@ pub fn parse(words: &[OsString], options: &[&'static Opt]) -> Result<Given, Usag
         let (name, attached) = cut(word);
         let known = |o: &&&Opt| name == o.long || o.short.is_some_and(|short| name == short);
         let Some(option) = options.iter().find(known) else {
-            let name = name.to_string_lossy();
+            let name = words::name(Path::new(name));
             return Err(Usage(format!(
                 "there is no option {name} (a file's name with - first goes behind --)"
             )));
@@ -62,7 +63,7 @@ pub fn parse(words: &[OsString], options: &[&'static Opt]) -> Result<Given, Usag
             (None, None) => OsString::new(),
             (None, Some(_)) => return Err(Usage(format!("{} takes no value", option.long))),
             (Some(_), Some(value)) => value.to_os_string(),
-            (Some(_), None) => words.next().cloned().unwrap_or_default(),
+            (Some(_), None) => line.next().cloned().unwrap_or_default(),
         };
         if let (Some(what), true) = (option.value, value.is_empty()) {
             return Err(Usage(format!("{} needs a value: {what}", option.long)));

@@ -12,7 +12,9 @@ use crate::arguments::{parse, Given, Usage};
 use crate::options::{Opt, HELP};
 use crate::output::{say, Output};
 use crate::status::Status;
+use crate::words::{self, wrapped};
 use std::ffi::OsString;
+use std::path::Path;
 
 /// A command.
 pub struct Command {
@@ -39,8 +41,8 @@ const COMMANDS: [&Command; 6] = [
 const STATUS: &str = "exit status: 0 all done, 1 some file was refused, 2 something could not be done, 64 wrong usage";
 
 /// Does what the words say.
-pub fn called(words: &[OsString]) -> Status {
-    let Some((first, rest)) = words.split_first() else {
+pub fn called(line: &[OsString]) -> Status {
+    let Some((first, rest)) = line.split_first() else {
         return wrong("owl", "no command is named");
     };
     if let Some(command) = COMMANDS.into_iter().find(|command| first == command.name) {
@@ -50,20 +52,20 @@ pub fn called(words: &[OsString]) -> Status {
         Some("-h" | "--help") => printed(&help()),
         Some("--version") => printed(concat!("owl ", env!("CARGO_PKG_VERSION"))),
         _ => {
-            let first = first.to_string_lossy();
+            let first = words::name(Path::new(first));
             wrong("owl", &format!("there is no command {first}"))
         }
     }
 }
 
 impl Command {
-    fn called(&self, words: &[OsString]) -> Status {
+    fn called(&self, line: &[OsString]) -> Status {
         let asks =
             |word: &OsString| word == HELP.long || HELP.short.is_some_and(|short| word == short);
-        if words.iter().take_while(|word| *word != "--").any(asks) {
+        if line.iter().take_while(|word| *word != "--").any(asks) {
             return printed(&self.help());
         }
-        let done = parse(words, self.options).and_then(|given| (self.run)(&given));
+        let done = parse(line, self.options).and_then(|given| (self.run)(&given));
         done.unwrap_or_else(|Usage(why)| wrong(&format!("owl {}", self.name), &why))
     }
 
@@ -84,15 +86,17 @@ impl Command {
     }
 
     fn help(&self) -> String {
-        let mut help = format!("usage: {}\n\n{}\n\n", self.usage(), self.about);
+        let usage = wrapped(&format!("usage: {}", self.usage()), 4);
+        let mut help = format!("{usage}\n\n{}\n\n", self.about);
         for option in self.options.iter().chain([&&HELP]) {
             let short = option.short.map(|short| format!("{short}, "));
             let value = option.value.map(|value| format!(" {value}"));
             let name = [short.as_deref(), Some(option.long), value.as_deref()];
             let name: String = name.into_iter().flatten().collect();
-            help += &format!("  {name:<22} {}\n", option.help);
+            let line = format!("  {name:<20} {}", option.help);
+            help += &(wrapped(&line, 23) + "\n");
         }
-        help + "\n" + STATUS
+        help + "\n" + &wrapped(STATUS, 4)
     }
 }
 
@@ -106,7 +110,8 @@ fn help() -> String {
             command.name, command.files, command.does
         );
     }
-    help + "\nowl COMMAND --help says more of each; owl --version prints the version.\n\n" + STATUS
+    help + "\nowl COMMAND --help says more of each; owl --version prints the version.\n\n"
+        + &wrapped(STATUS, 4)
 }
 
 fn printed(text: &str) -> Status {

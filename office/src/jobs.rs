@@ -12,7 +12,7 @@ use bushingowl::Refused;
 use std::path::Path;
 use std::sync::atomic::{AtomicUsize, Ordering};
 use std::sync::mpsc::{channel, sync_channel, Receiver, Sender, SyncSender};
-use std::thread::Scope;
+use std::thread::{Builder, Scope};
 use std::time::Duration;
 
 /// What a command does with the text of a file.
@@ -31,8 +31,8 @@ pub struct Made {
     pub start: u64,
     /// The number of the first row.
     pub first: Option<u64>,
-    /// The position of the first step back.
-    pub first_step_back: Option<usize>,
+    /// The number of the first row that steps back.
+    pub first_step_back: Option<u64>,
     pub counts: Counts,
     /// The bytes of the output.
     pub bytes: usize,
@@ -70,20 +70,25 @@ impl Finished {
     }
 }
 
-/// Works on all items, so many side by side, and sends what became of each, in any order.
+/// Works on all items, so many side by side, and sends what became of each, in any order. Gives the number of jobs that were started: fewer where the system
+/// gives no more threads. All rooms are made before the first thread is, which takes memory as well.
 pub fn start<'scope>(
     scope: &'scope Scope<'scope, '_>,
     jobs: usize,
     shared: &'scope Shared<'scope>,
     finished: &Sender<Finished>,
-) {
-    for _ in 0..jobs {
+) -> usize {
+    let rooms: Vec<_> = (0..jobs).map(|_| shared.room()).collect();
+    let started = rooms.into_iter().map(|(room, give_back)| {
         let finished = finished.clone();
         let (made, to_be_put) = sync_channel(1);
-        let (give_back, back) = channel();
-        scope.spawn(move || shared.make_all(back, &made));
-        scope.spawn(move || shared.put_all(&to_be_put, &give_back, &finished));
-    }
+        let put = move || shared.put_all(&to_be_put, &give_back, &finished);
+        let make = move || shared.make_all(room, &made);
+        // Without the second thread the first one ends, as there is nobody who makes something to put.
+        let put = Builder::new().spawn_scoped(scope, put);
+        put.is_ok() && Builder::new().spawn_scoped(scope, make).is_ok()
+    });
+    started.take_while(|started| *started).count()
 }
 
 /// What all jobs share.
@@ -112,9 +117,14 @@ impl<'a> Shared<'a> {
         }
     }
 
-    fn make_all(&self, back: Receiver<Buffer>, made: &SyncSender<ToPut>) {
+    /// The room of a job, and the way on which its output comes back.
+    fn room(&self) -> (Room, Sender<Buffer>) {
+        let (give_back, back) = channel();
         let output = Buffer::new(self.work.most_output());
-        let mut room = Room::new(Lent::new(output, back));
+        (Room::new(Lent::new(output, back)), give_back)
+    }
+
+    fn make_all(&self, mut room: Room, made: &SyncSender<ToPut>) {
         loop {
             let index = self.next.fetch_add(1, Ordering::Relaxed);
             let Some(item) = self.items.get(index) else {

@@ -1,6 +1,7 @@
 //! Files that get their name only when they are whole.
 
 use crate::room::PAGE;
+use crate::words;
 use std::fs::{self, File};
 use std::io::{self, ErrorKind, Read};
 use std::os::unix::ffi::OsStrExt;
@@ -67,7 +68,10 @@ impl Part {
     fn create(target: &Path) -> io::Result<Part> {
         static COUNT: AtomicU64 = AtomicU64::new(0);
         let folder = folder_of(target);
-        fs::create_dir_all(folder)?;
+        fs::create_dir_all(folder).map_err(|error| {
+            let why = words::error(&error);
+            io::Error::new(error.kind(), format!("its folder can't be made: {why}"))
+        })?;
         loop {
             let count = COUNT.fetch_add(1, Ordering::Relaxed);
             let path = folder.join(format!("{BEGINS}{}-{count}{ENDS}", process::id()));

@@ -1,17 +1,22 @@
 //! How far a run has come: a line on a terminal, and nothing elsewhere.
 
-use crate::words::separated;
+use crate::words::{many, separated};
 use std::io::{self, IsTerminal, Write};
 use std::time::{Duration, Instant};
 
 /// How often the line is shown anew.
 pub const EVERY: Duration = Duration::from_millis(100);
 
+/// A run that is over before needs no line.
+const AFTER: Duration = Duration::from_millis(300);
+
 pub struct Progress {
     on_terminal: bool,
     began: Instant,
     /// When the line that stands there was written.
     shown: Option<Instant>,
+    /// Whether it was ever shown.
+    was_shown: bool,
     files: usize,
     bytes: u64,
     files_done: usize,
@@ -24,6 +29,7 @@ impl Progress {
             on_terminal: io::stderr().is_terminal(),
             began: Instant::now(),
             shown: None,
+            was_shown: false,
             files,
             bytes,
             files_done: 0,
@@ -39,8 +45,10 @@ impl Progress {
     /// Shows the line, if it is time to.
     pub fn show(&mut self) {
         let now = Instant::now();
-        if self.on_terminal && self.shown.is_none_or(|shown| now - shown >= EVERY) {
+        let is_due = self.shown.is_none_or(|shown| now - shown >= EVERY);
+        if self.on_terminal && is_due && now - self.began >= AFTER {
             self.shown = Some(now);
+            self.was_shown = true;
             let text = self.text(now - self.began);
             let _ = write!(io::stderr(), "\r\x1b[K{text}");
         }
@@ -56,7 +64,7 @@ impl Progress {
     /// What it came to, in place of the line.
     pub fn end(&mut self) {
         self.clear();
-        if self.on_terminal {
+        if self.was_shown {
             let taken = self.began.elapsed();
             let (done, rate) = (megabytes(self.bytes_done), megabytes(self.rate(taken)));
             let seconds = taken.as_secs_f64();
@@ -72,9 +80,9 @@ impl Progress {
     fn text(&self, taken: Duration) -> String {
         let rate = self.rate(taken);
         let mut text = format!(
-            "{} of {} files, {} of {} MB, {} MB/s",
+            "{} of {}, {} of {} MB, {} MB/s",
             separated(self.files_done as u64),
-            separated(self.files as u64),
+            many(self.files as u64, "file", "files"),
             megabytes(self.bytes_done),
             megabytes(self.bytes),
             megabytes(rate)
@@ -110,6 +118,7 @@ mod tests {
             on_terminal: false,
             began: Instant::now(),
             shown: None,
+            was_shown: false,
             files: 420,
             bytes: 4_000_000_000,
             files_done: 105,

@@ -42,23 +42,33 @@ impl Run<'_> {
         let plan = plan(&given.names, self.ending, self.naming.as_ref());
         plan.notes.iter().for_each(|note| say(note));
         folders(&plan.items).into_iter().for_each(sweep);
-        let jobs = jobs.min(plan.items.len()).max(1);
-        if !room::are_had(jobs, self.work.most_output()) {
-            let jobs = many(jobs as u64, "job", "jobs");
-            say(&format!("there is not enough memory for {jobs}"));
-            return Ok(Status::NotDone);
-        }
+        let wanted = jobs.min(plan.items.len()).max(1);
+        let room_for = |jobs: &usize| room::are_had(*jobs, self.work.most_output());
+        let jobs = (1..=wanted).rev().find(room_for).unwrap_or(0);
         let shared = Shared::new(&plan.items, self.work, given.has(&FORCE));
         let mut report = Report::new(self.wording, given.has(&REPORT_JSON));
-        let written = thread::scope(|scope| {
+        let (jobs, written) = thread::scope(|scope| {
             let (finished, results) = channel();
-            jobs::start(scope, jobs, &shared, &finished);
+            let jobs = jobs::start(scope, jobs, &shared, &finished);
             drop(finished);
-            reported(&plan.items, &results, &mut report)
+            tell_if_fewer(jobs, wanted);
+            (jobs, reported(&plan.items, &results, &mut report))
         });
+        if jobs == 0 {
+            return Ok(Status::NotDone);
+        }
         let synced = synced(&written);
         report.summary(jobs, began.elapsed());
         Ok(report.status().max(synced).max(report.output.end()))
+    }
+}
+
+fn tell_if_fewer(jobs: usize, wanted: usize) {
+    if jobs < wanted {
+        let wanted = many(wanted as u64, "job", "jobs");
+        say(&format!(
+            "the system has no room for {wanted}: {jobs} at work"
+        ));
     }
 }
 

@@ -29,6 +29,25 @@ fn push_numbers(shown: &mut String, bytes: &[u8]) {
     }
 }
 
+/// The columns of a terminal.
+const COLUMNS: usize = 80;
+
+/// A text in lines that fit a terminal, those behind the first behind so many blanks. Blanks within a line stay.
+pub fn wrapped(text: &str, indent: usize) -> String {
+    let mut lines = String::new();
+    let mut rest = text;
+    let mut room = COLUMNS;
+    while rest.len() > room {
+        let Some(at) = rest[..=room].rfind(' ') else {
+            break;
+        };
+        lines += &format!("{}\n{}", rest[..at].trim_end(), " ".repeat(indent));
+        rest = &rest[at + 1..];
+        room = COLUMNS - indent;
+    }
+    lines + rest
+}
+
 /// A number with its thousands separated.
 pub fn separated(number: u64) -> String {
     match number / 1000 {
@@ -82,6 +101,15 @@ mod tests {
     fn names_show_every_byte() {
         let odd = OsStr::from_bytes(b"a b\xFFc\n\x1b[2J\xC3\xA4");
         assert_eq!(name(Path::new(odd)), "a b\\xFFc\\x0A\\x1B[2Jä");
+    }
+
+    #[test]
+    fn long_lines_are_wrapped() {
+        let text = format!("  a   {} {}", "b".repeat(60), "c".repeat(20));
+        let expected = format!("  a   {}\n    {}", "b".repeat(60), "c".repeat(20));
+        assert_eq!(wrapped(&text, 4), expected);
+        assert_eq!(wrapped(&"x".repeat(90), 4), "x".repeat(90));
+        assert_eq!(wrapped("short", 4), "short");
     }
 
     #[test]

@@ -15,7 +15,7 @@ use std::path::{Path, PathBuf};
 pub const COMMAND: Command = Command {
     name: "explain",
     files: "FILE",
-    does: "the line at which a trace is refused, and what is wrong with it",
+    does: "where a trace is refused, and what is wrong there",
     about: "\
 Shows the line at which a trace is refused, with its number and a mark under
 what is wrong, the reason in words, and what was expected. Bytes that can't be

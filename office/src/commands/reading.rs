@@ -51,7 +51,7 @@ impl Made {
             version: Some(trace.version),
             start: trace.start,
             first: Some(trace.first),
-            first_step_back: trace.step_back,
+            first_step_back: trace.step_back.map(|at| trace.first + at as u64 - 1),
             counts: Default::default(),
             bytes: 0,
         }
@@ -65,7 +65,7 @@ impl Made {
             version: None,
             start: lines.start,
             first: None,
-            first_step_back: at.map(|at| at + 1),
+            first_step_back: at.map(|at| at as u64 + 1),
             counts: Default::default(),
             bytes: 0,
         }

@@ -109,11 +109,9 @@ fn head(held: &Made, rows: usize) -> String {
         .map(|version| format!("version {}, ", words::version(version)));
     let rows = many(rows as u64, "row", "rows");
     let start = stamp(held.start, 0);
-    let back = match (held.first_step_back, held.first) {
-        (Some(position), Some(first)) => {
-            format!("first step back at row {}", first + position as u64 - 1)
-        }
-        _ => "no step back".to_string(),
+    let back = match held.first_step_back {
+        Some(row) => format!("first step back at row {row}"),
+        None => "no step back".to_string(),
     };
     format!(
         "{}start {start}, {rows}, {back}",

@@ -75,6 +75,19 @@ fn an_output_folder_below_a_file() {
 }
 
 #[test]
+fn a_file_in_place_of_a_folder_of_outputs() {
+    let scratch = pair();
+    scratch.put("week/x/c.trc", rows(2));
+    scratch.put("out/x", "a file");
+    let ran = scratch.owl("convert week -o out").ended(2);
+    assert_eq!(
+        ran.failure_of("week/x/c.trc"),
+        "out/x/c.asc can't be written: its folder can't be made: File exists"
+    );
+    assert_eq!(scratch.names("out"), ["a.asc", "b.asc", "x"]);
+}
+
+#[test]
 fn an_output_folder_that_cannot_be_made() {
     let scratch = pair();
     let ran = scratch.owl("convert week -o /proc/owl --json").ended(2);
@@ -120,9 +133,28 @@ fn standard_error_that_cannot_be_written() {
 }
 
 #[test]
+fn memory_for_fewer_jobs() {
+    let scratch = pair();
+    let ran = scratch.shell("ulimit -v 300000; exec \"$OWL\" convert week --jobs 16 --json");
+    let ran = ran.ended(0);
+    assert_eq!(
+        ran.err(),
+        "owl: the system has no room for 2 jobs: 1 at work\n"
+    );
+    let (_, summary) = ran.objects();
+    assert_eq!((summary.number("done"), summary.number("jobs")), (2.0, 1.0));
+}
+
+#[test]
 fn memory_that_cannot_be_had() {
     let scratch = pair();
-    let ran = scratch.shell("ulimit -v 300000; exec \"$OWL\" convert week --jobs 16");
+    let ran = scratch.shell("ulimit -v 100000; exec \"$OWL\" convert week --jobs 16");
+    assert!(
+        ran.err().starts_with("owl: the system has no room"),
+        "{ran}"
+    );
+    ran.ended(2);
+    let ran = scratch.shell("ulimit -v 100000; exec \"$OWL\" show week/a.trc");
     assert!(ran.err().starts_with("owl: "), "{ran}");
     ran.ended(2);
 }

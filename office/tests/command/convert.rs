@@ -53,6 +53,23 @@ fn says_null_where_no_row_steps_back() {
 }
 
 #[test]
+fn names_the_first_row_that_steps_back_by_its_number() {
+    let scratch = Scratch::new();
+    scratch.sample("selection.trc");
+    let (files, _) = scratch
+        .owl("convert selection.trc --json")
+        .ended(0)
+        .objects();
+    assert_eq!(files[0].number("first"), 4117.0);
+    assert_eq!(files[0].number("first_step_back"), 4121.0);
+    let ran = scratch.owl("show selection.trc").ended(0);
+    assert!(
+        ran.lines()[0].ends_with("first step back at row 4121"),
+        "{ran}"
+    );
+}
+
+#[test]
 fn counts_every_step_back() {
     let scratch = Scratch::new();
     let row = |number, offset| format!("{number}) {offset}.000 1 Rx 0123 0\r\n");

@@ -39,6 +39,17 @@ fn names_every_command() {
 }
 
 #[test]
+fn lines_fit_a_terminal() {
+    let commands = COMMANDS.map(|(command, _)| format!("{command} --help"));
+    for words in ["--help".to_string()].iter().chain(&commands) {
+        let ran = help(words);
+        for line in ran.lines() {
+            assert!(line.len() <= 80, "{words}: {line}");
+        }
+    }
+}
+
+#[test]
 fn of_a_command_names_its_options() {
     for (command, options) in COMMANDS {
         let ran = help(&format!("{command} --help"));

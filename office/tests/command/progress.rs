@@ -11,6 +11,9 @@ fn week() -> Scratch {
     scratch
 }
 
+/// A trace that comes only after a second: a run with it shows how far it has come.
+const SLOW: &str = "mkfifo slow.trc; { sleep 1; cat week/0.trc >slow.trc; } & ";
+
 /// Runs a line of the shell on a terminal, and gives what was printed there. Nothing where there is no `script`.
 fn on_a_terminal(scratch: &Scratch, line: &str) -> Option<Ran> {
     let mut script = scratch.command("script");
@@ -39,18 +42,28 @@ fn is_none_elsewhere() {
 #[test]
 fn is_on_a_terminal() {
     let scratch = week();
-    let Some(ran) = on_a_terminal(&scratch, "\"$OWL\" convert week >printed") else {
+    let line = format!("{SLOW} \"$OWL\" convert slow.trc week --jobs 2 >printed");
+    let Some(ran) = on_a_terminal(&scratch, &line) else {
         return;
     };
     let ran = ran.ended(0);
-    assert!(
-        ran.out().contains('\r') && ran.out().contains("300"),
-        "{ran}"
-    );
+    assert!(ran.out().contains("\r\x1B[K300 of 301 files, "), "{ran}");
+    assert!(ran.out().contains(" MB/s"), "{ran}");
     assert_eq!(
         String::from_utf8(scratch.bytes("printed")).unwrap(),
-        "300 files: 300 converted\n600,000 rows, 600,000 lines, 0 left out, 0 steps back\n"
+        "301 files: 301 converted\n602,000 rows, 602,000 lines, 0 left out, 0 steps back\n"
     );
+}
+
+#[test]
+fn is_none_where_all_is_done_at_once() {
+    let scratch = Scratch::new();
+    scratch.put("a.trc", rows(2));
+    let Some(ran) = on_a_terminal(&scratch, "\"$OWL\" check a.trc") else {
+        return;
+    };
+    let lines = "1 file: 1 good\r\n2 rows, 0 steps back\r\n";
+    assert_eq!(ran.ended(0).out(), lines);
 }
 
 #[test]
@@ -68,7 +81,8 @@ fn is_none_where_only_standard_output_is_a_terminal() {
 fn does_not_stay_in_the_report() {
     let scratch = week();
     scratch.put("week/bad.trc", "");
-    let Some(ran) = on_a_terminal(&scratch, "\"$OWL\" check week") else {
+    let line = format!("{SLOW} \"$OWL\" check slow.trc week");
+    let Some(ran) = on_a_terminal(&scratch, &line) else {
         return;
     };
     let ran = ran.ended(1);
@@ -87,5 +101,5 @@ fn does_not_stay_in_the_report() {
             .any(|line| line.trim_start_matches("[K").starts_with(end))
     };
     assert!(ends("week/bad.trc: line 1 "), "{shown:?}");
-    assert!(ends("301 files: 300 good, 1 refused"), "{shown:?}");
+    assert!(ends("302 files: 301 good, 1 refused"), "{shown:?}");
 }

@@ -205,6 +205,16 @@ fn is_said_in_words() {
 }
 
 #[test]
+fn shows_what_cannot_be_seen_as_its_number() {
+    let scratch = depot();
+    for words in [["co\x1B[31mnvert", "a.trc"], ["check", "--\x1B[31m"]] {
+        let ran = scratch.owl_with(words).ended(64);
+        assert!(ran.err().contains("\\x1B[31m"), "{ran}");
+        assert!(!ran.err().contains('\x1B'), "{ran}");
+    }
+}
+
+#[test]
 fn is_none_where_the_limits_are_kept() {
     let scratch = depot();
     for words in [
