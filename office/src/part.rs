@@ -102,8 +102,8 @@ impl Part {
         self.file.write_all_at(bytes, 0)
     }
 
-    /// Has the disk take the bytes from where they are. With a copy in the system's memory a run on one core takes more than half as long again. Not every
-    /// file system can do it.
+    /// Has the disk take the bytes from where they are. With a copy in the system's memory a run on one core took more than twice as long. Not every file
+    /// system can do it.
     fn fill_directly(&self, blocks: &[u8]) -> io::Result<()> {
         let mut options = File::options();
         let file = options
