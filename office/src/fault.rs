@@ -2,12 +2,10 @@
 
 use crate::words;
 use bushingowl::{
-    explain_ascii_refusal, explain_refusal_with, unpack, Quoted, Reason, Refused, RECORD,
+    explain_ascii_refusal, explain_refusal_with, read, unpack, Quoted, Reason, Refused, LINE_LIMIT,
+    RECORD,
 };
 use std::ops::Range;
-
-/// The most bytes of a line before CR LF.
-const LINE_LIMIT: usize = 250;
 
 /// A line that is wrong, and where.
 pub struct Fault<'a> {
@@ -110,13 +108,17 @@ fn too_long(line: &[u8]) -> Wrong {
 
 fn no_version(text: &[u8], line: &[u8]) -> Wrong {
     let expected = ";$FILEVERSION=1.1 or ;$FILEVERSION=1.2".to_string();
-    let (place, why) = match (value_of(line, b"$FILEVERSION="), text) {
+    let (place, why) = match (value_of(line, VERSION_LINE), text) {
         (_, []) => (0..0, "the file is empty".to_string()),
         (_, [0xEF, 0xBB, 0xBF, ..]) => (0..3, "a byte order mark stands before it".to_string()),
         (_, [0xFF, 0xFE, ..] | [0xFE, 0xFF, ..]) => (0..2, "the file is UTF-16".to_string()),
         (Some(place), _) => {
-            let found = Quoted(&line[place.clone()]);
-            (place, format!("version {found} was found"))
+            let head = [
+                VERSION_LINE,
+                &line[place.clone()],
+                b"\r\n;$STARTTIME=0.0\r\n",
+            ];
+            found("version", line, place, &head.concat())
         }
         (None, _) => (0..line.len(), "no version was found".to_string()),
     };
@@ -125,10 +127,15 @@ fn no_version(text: &[u8], line: &[u8]) -> Wrong {
 
 fn no_start(line: &[u8]) -> Wrong {
     let expected = ";$STARTTIME= with days of 1 to 5 digits, a point and 1 to 10 digits, up to 99999.9999999942";
-    let (place, why) = match value_of(line, b"$STARTTIME=") {
+    let (place, why) = match value_of(line, START_LINE) {
         Some(place) => {
-            let found = Quoted(&line[place.clone()]);
-            (place, format!("start {found} was found"))
+            let head = [
+                b";$FILEVERSION=1.1\r\n",
+                START_LINE,
+                &line[place.clone()],
+                b"\r\n",
+            ];
+            found("start", line, place, &head.concat())
         }
         None if line.is_empty() => (0..0, "there is none".to_string()),
         None => (0..line.len(), "no start was found".to_string()),
@@ -143,9 +150,27 @@ fn dollar(line: &[u8]) -> Wrong {
     (at..at + 1, why, expected)
 }
 
-/// Where the value stands that follows a name in a line.
-fn value_of(line: &[u8], name: &[u8]) -> Option<Range<usize>> {
+/// How line 1 and line 2 begin.
+const VERSION_LINE: &[u8] = b";$FILEVERSION=";
+const START_LINE: &[u8] = b";$STARTTIME=";
+
+/// Where the value stands in a line that begins nearly so, in any letter case.
+fn value_of(line: &[u8], begin: &[u8]) -> Option<Range<usize>> {
+    let name = &begin[1..];
     let mut windows = line.windows(name.len());
     let at = windows.position(|bytes| bytes.eq_ignore_ascii_case(name))?;
     Some(at + name.len()..line.len())
+}
+
+/// What is wrong with a line in which a value was found: the value, or else what stands before it. The library is asked, by a text that has the value in a
+/// line as it must be.
+fn found(what: &str, line: &[u8], value: Range<usize>, text: &[u8]) -> (Range<usize>, String) {
+    let bytes = Quoted(&line[value.clone()]);
+    match read(text, &mut []) {
+        Ok(_) => (
+            0..value.start,
+            format!("{what} {bytes} is good, and what stands before it is not"),
+        ),
+        Err(_) => (value, format!("{what} {bytes} was found")),
+    }
 }

@@ -197,3 +197,12 @@ pub fn sweep(folder: &Path) {
         }
     }
 }
+
+/// Waits until the names in a folder are on the disk. Some file systems sync no folders; theirs are there with the files.
+pub fn sync_names(folder: &Path) -> io::Result<()> {
+    let needless = [ErrorKind::InvalidInput, ErrorKind::Unsupported];
+    match File::open(folder)?.sync_all() {
+        Err(error) if needless.contains(&error.kind()) => Ok(()),
+        synced => synced,
+    }
+}

@@ -4,7 +4,7 @@ use crate::arguments::{number, Given, Usage};
 use crate::jobs::{self, Ending, Finished, Shared, Work};
 use crate::options::{FORCE, JOBS, REPORT_JSON};
 use crate::output::say;
-use crate::part::{folder_of, sweep};
+use crate::part::{folder_of, sweep, sync_names};
 use crate::plan::{plan, Item, Naming};
 use crate::progress::{Progress, EVERY};
 use crate::report::{Report, Wording};
@@ -12,8 +12,6 @@ use crate::room;
 use crate::status::Status;
 use crate::words::{self, many};
 use std::collections::BTreeSet;
-use std::fs::File;
-use std::io::{self, ErrorKind};
 use std::path::{Path, PathBuf};
 use std::sync::mpsc::{channel, Receiver, RecvTimeoutError};
 use std::thread;
@@ -131,26 +129,11 @@ fn reported(
 fn synced(folders: &BTreeSet<PathBuf>) -> Status {
     let mut status = Status::AllDone;
     for folder in folders {
-        if let Err(error) = sync(folder) {
+        if let Err(error) = sync_names(folder) {
             let (name, why) = (words::name(folder), words::error(&error));
             say(&format!("{name}: its names can't be synced: {why}"));
             status = Status::NotDone;
         }
     }
     status
-}
-
-/// Some file systems sync no folders; theirs are on the disk with the files.
-fn sync(folder: &Path) -> io::Result<()> {
-    match File::open(folder)?.sync_all() {
-        Err(error)
-            if matches!(
-                error.kind(),
-                ErrorKind::InvalidInput | ErrorKind::Unsupported
-            ) =>
-        {
-            Ok(())
-        }
-        other => other,
-    }
 }

@@ -1,6 +1,6 @@
 //! What may stand in a place, in words.
 
-use crate::{AsciiFault, AsciiPart, Column, MOST_OFFSET};
+use crate::{AsciiFault, AsciiPart, Column, LINE_LIMIT, MOST_OFFSET};
 
 /// Behind "a" or "a row": what the row number may be where no row stands before.
 pub(crate) const ANY_NUMBER: &str = "number from 1 to 999999 and \")\"";
@@ -57,7 +57,7 @@ fn in_error_frame(byte: u8) -> &'static str {
 pub(crate) fn instead_of(fault: AsciiFault) -> String {
     let words = match fault {
         AsciiFault::NotEnded => "CR LF or LF",
-        AsciiFault::TooLong => "at most 250 bytes",
+        AsciiFault::TooLong => return format!("at most {LINE_LIMIT} bytes"),
         AsciiFault::WrongPart { part, .. } => return in_part(part),
         AsciiFault::EndedEarly { next, .. } => return in_part(next),
         AsciiFault::Empty => return in_part(AsciiPart::Date),

@@ -3,12 +3,10 @@
 use crate::expected::instead_of;
 use crate::line::{cut, parts, place_of, places};
 use crate::quoted::Quoted;
-use crate::{read_ascii, AsciiPart, Reason, Refused, MOST_OFFSET, RECORD};
+use crate::{read_ascii, AsciiPart, Reason, Refused, LINE_LIMIT, MOST_OFFSET, RECORD};
 use std::fmt;
 use std::ops::Range;
 
-/// The most bytes of a line before its end.
-const MOST_BYTES: usize = 250;
 const START: &str = "the start, that of line 1 cut to the millisecond";
 
 /// The line at which lines of Telemotive ASCII are refused, and why. It is shown in words, in which a part is cut behind 40
@@ -98,7 +96,7 @@ pub fn explain_ascii_refusal(text: &[u8], refused: Refused) -> Option<AsciiExpla
 
 /// What is wrong with an ended line that is none of Telemotive ASCII.
 fn no_line(line: &[u8]) -> AsciiFault<'_> {
-    if line.len() > MOST_BYTES {
+    if line.len() > LINE_LIMIT {
         return AsciiFault::TooLong;
     }
     let parts = parts(line);
@@ -159,7 +157,7 @@ impl AsciiExplanation<'_> {
             AsciiFault::OneTooMany { number, .. } => place(number),
             AsciiFault::NotEnded | AsciiFault::EndedEarly { .. } => end..end,
             AsciiFault::Empty => 0..0,
-            AsciiFault::TooLong => MOST_BYTES.min(end)..end,
+            AsciiFault::TooLong => LINE_LIMIT.min(end)..end,
             AsciiFault::BlankBefore => 0..place(1).start,
             AsciiFault::BlankBehind => places(self.bytes).last().map_or(0, |last| last.end)..end,
             AsciiFault::BeforeStart | AsciiFault::TooFarBehindStart => 0..place(2).end,
@@ -184,7 +182,7 @@ impl fmt::Display for AsciiExplanation<'_> {
     fn fmt(&self, f: &mut fmt::Formatter) -> fmt::Result {
         match self.fault {
             AsciiFault::NotEnded => write!(f, "the line is not ended by CR LF or LF"),
-            AsciiFault::TooLong => write!(f, "the line has more than {MOST_BYTES} bytes"),
+            AsciiFault::TooLong => write!(f, "the line has more than {LINE_LIMIT} bytes"),
             AsciiFault::WrongPart {
                 number,
                 part,

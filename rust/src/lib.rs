@@ -72,6 +72,8 @@ use refused::accepted;
 pub const RECORD: usize = 20;
 /// The most bytes of a text that [`read`] and [`read_ascii`] take.
 pub const MOST_TEXT: usize = 134_217_728;
+/// The most bytes of a line before its end.
+pub const LINE_LIMIT: usize = 250;
 /// The largest number of a row, and so the most rows of a text and the most records of a list; the most lines that
 /// [`read_ascii`] takes, too.
 pub const MOST_ROWS: usize = 999_999;

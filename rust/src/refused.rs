@@ -1,6 +1,6 @@
 //! Why a call was refused.
 
-use crate::{MOST_CHANNEL, MOST_OFFSET, MOST_ROWS, MOST_TEXT};
+use crate::{LINE_LIMIT, MOST_CHANNEL, MOST_OFFSET, MOST_ROWS, MOST_TEXT};
 use std::error::Error;
 use std::fmt;
 
@@ -130,7 +130,7 @@ impl fmt::Display for Refused {
         match self.reason {
             Reason::TextTooLong => write!(f, "the text has more than {text} bytes"),
             Reason::LineNotEnded => write!(f, "line {place} is not ended by CR LF"),
-            Reason::LineTooLong => write!(f, "line {place} has more than 250 bytes"),
+            Reason::LineTooLong => write!(f, "line {place} has more than {LINE_LIMIT} bytes"),
             Reason::NoVersionLine => write!(f, "line {place} is no ;$FILEVERSION=1.1 or 1.2"),
             Reason::NoStartLine => write!(f, "line {place} is no ;$STARTTIME= up to day 99,999"),
             Reason::DollarComment => write!(f, "line {place} is a comment with $ first"),
@@ -144,7 +144,7 @@ impl fmt::Display for Refused {
             Reason::NoRoom => write!(f, "the output is too short"),
             Reason::WrongFirstNumber => write!(f, "the first number is 0 with records or not 0 without, or the last row's would be above {rows}"),
             Reason::Unexplained => write!(f, "the line is a row or a comment or holds CR or LF, or its number is above {rows}"),
-            Reason::NoAsciiLine => write!(f, "line {place} is no line of Telemotive ASCII, or has more than 250 bytes, or is not ended"),
+            Reason::NoAsciiLine => write!(f, "line {place} is no line of Telemotive ASCII, or has more than {LINE_LIMIT} bytes, or is not ended"),
             Reason::BeforeStart => write!(f, "the stamp of line {place} lies before the start, that of line 1 cut to the millisecond"),
             Reason::OffsetTooLarge => write!(f, "the stamp of line {place} lies more than {offset} microseconds behind the start"),
             Reason::TooManyLines => write!(f, "there are more than {rows} lines"),

@@ -82,9 +82,7 @@ fn shown(held: &Made, records: &[u8], form: Form) -> Status {
         Form::Json => {}
     }
     for (packed, number) in records.chunks(RECORD).zip(held.first.unwrap_or(1)..) {
-        let Ok(record) = unpack(packed) else {
-            break;
-        };
+        let record = unpack(packed).expect("the records are the library's own");
         let row = Row {
             number,
             stamp: stamp(held.start, record.offset),

@@ -116,6 +116,44 @@ fn have_a_detail_for_each_end_of_a_line() {
 }
 
 #[test]
+fn of_the_first_lines_tell_a_wrong_value_from_what_stands_before_it() {
+    let scratch = Scratch::new();
+    for (text, detail) in [
+        ("", "the file is empty"),
+        (
+            "\u{FEFF};$FILEVERSION=1.1\r\n",
+            "a byte order mark stands before it",
+        ),
+        ("hello\r\n", "no version was found"),
+        (";$FILEVERSION=1.3\r\n", "version \"1.3\" was found"),
+        (";$FILEVERSION=1.1 1.2\r\n", "version \"1.1 1.2\" was found"),
+        (
+            "x;$FILEVERSION=1.1\r\n",
+            "version \"1.1\" is good, and what stands before it is not",
+        ),
+        (
+            ";$fileversion=1.2 \r\n",
+            "version \"1.2 \" is good, and what stands before it is not",
+        ),
+        (";$FILEVERSION=1.1\r\n", "there is none"),
+        (";$FILEVERSION=1.1\r\nhello\r\n", "no start was found"),
+        (
+            ";$FILEVERSION=1.1\r\n;$STARTTIME=0,5\r\n",
+            "start \"0,5\" was found",
+        ),
+        (
+            ";$FILEVERSION=1.1\r\n$STARTTIME=0.5\r\n",
+            "start \"0.5\" is good, and what stands before it is not",
+        ),
+    ] {
+        scratch.put("a.trc", text);
+        let ran = scratch.owl("check a.trc").ended(1).quietly();
+        let line = ran.line_of("a.trc");
+        assert!(line.ends_with(&format!("): {detail}")), "{text}: {line}");
+    }
+}
+
+#[test]
 fn for_a_line_that_is_too_long_count_its_bytes() {
     let scratch = Scratch::new();
     let line = format!(";{}\r\n", "x".repeat(250));
