@@ -24,7 +24,7 @@ pub struct Naming {
     /// What is taken off the end of the input's name, the first of these that is there, in any letter case.
     pub off: &'static [&'static str],
     /// What is put behind it.
-    pub on: &'static str,
+    pub on: String,
     /// The folder of all outputs. Without it they go beside their inputs.
     pub folder: Option<PathBuf>,
 }
@@ -131,6 +131,8 @@ fn items(sources: Vec<Source>, naming: Option<&Naming>) -> Vec<Item> {
         if !named.insert(entry(&path)) {
             continue;
         }
+        // What can't be done takes no name from a file that can.
+        let naming = naming.filter(|_| trouble.is_none());
         let target = naming.and_then(|naming| naming.target(&path, &below));
         let clash = target.as_deref().and_then(|target| {
             let place = entry(target);
@@ -178,18 +180,18 @@ mod tests {
 
     #[test]
     fn an_output_is_named_by_its_input() {
-        let (off, on) = (&[".asc", ".txt"][..], ".trc");
-        let beside = Naming {
+        let off = &[".asc", ".txt"];
+        let naming = |folder| Naming {
             off,
-            on,
-            folder: None,
+            on: ".trc".to_string(),
+            folder,
         };
+        let beside = naming(None);
         assert_eq!(target(&beside, "a/b.asc", ""), Path::new("a/b.trc"));
         assert_eq!(target(&beside, "b.TXT", ""), Path::new("b.trc"));
         assert_eq!(target(&beside, "a/b.log", ""), Path::new("a/b.log.trc"));
         assert_eq!(target(&beside, ".asc", ""), Path::new(".trc"));
-        let folder = Some(PathBuf::from("out"));
-        let elsewhere = Naming { off, on, folder };
+        let elsewhere = naming(Some(PathBuf::from("out")));
         assert_eq!(target(&elsewhere, "a/b.asc", ""), Path::new("out/b.trc"));
         let below = target(&elsewhere, "week/m/1/b.asc", "m/1");
         assert_eq!(below, Path::new("out/m/1/b.trc"));

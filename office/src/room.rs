@@ -36,7 +36,7 @@ const MOST_RECORDS: usize = MOST_ROWS * RECORD;
 
 /// Whether the system would give so many rooms with outputs of this size. It is asked for all at once, before the first is made: a vector that can't be had
 /// ends the program.
-pub fn are_had(rooms: usize, most_output: usize) -> bool {
+pub fn is_memory_for(rooms: usize, most_output: usize) -> bool {
     let bytes = MOST_TEXT + 1 + MOST_RECORDS + most_output + PAGE;
     let all = bytes.saturating_mul(rooms);
     Vec::<u8>::new().try_reserve_exact(all).is_ok()

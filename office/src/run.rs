@@ -41,7 +41,7 @@ impl Run<'_> {
         plan.notes.iter().for_each(|note| say(note));
         folders(&plan.items).into_iter().for_each(sweep);
         let wanted = jobs.min(plan.items.len()).max(1);
-        let room_for = |jobs: &usize| room::are_had(*jobs, self.work.most_output());
+        let room_for = |jobs: &usize| room::is_memory_for(*jobs, self.work.most_output());
         let jobs = (1..=wanted).rev().find(room_for).unwrap_or(0);
         let shared = Shared::new(&plan.items, self.work, given.has(&FORCE));
         let mut report = Report::new(self.wording, given.has(&REPORT_JSON));

@@ -71,21 +71,19 @@ pub fn error(error: &io::Error) -> String {
         .to_string()
 }
 
-/// A version as a trace has it.
+/// The versions, by their numbers and as a trace spells them.
+const VERSIONS: [(u32, &str); 2] = [(11, "1.1"), (12, "1.2")];
+
+/// A version as a trace spells it.
 pub fn version(number: u32) -> &'static str {
-    match number {
-        11 => "1.1",
-        _ => "1.2",
-    }
+    let found = VERSIONS.iter().find(|(known, _)| *known == number);
+    found.expect("the library knows no other versions").1
 }
 
 /// The number of a version that is spelled so.
 pub fn version_number(word: &OsStr) -> Option<u32> {
-    match word.as_bytes() {
-        b"1.1" => Some(11),
-        b"1.2" => Some(12),
-        _ => None,
-    }
+    let found = VERSIONS.iter().find(|(_, spelled)| word == *spelled);
+    found.map(|(number, _)| *number)
 }
 
 /// Microseconds as milliseconds.

@@ -3,7 +3,7 @@
 use super::write::{version, written, MOST_WRITTEN};
 use super::{reading, Command};
 use crate::arguments::{Given, Usage};
-use crate::counts::{Count, Counts};
+use crate::counts::Count;
 use crate::jobs::{Made, Refusal, Work};
 use crate::options::{FORCE, JOBS, OUTPUT, REPORT_JSON, VERSION};
 use crate::plan::Naming;
@@ -11,7 +11,7 @@ use crate::report::Wording;
 use crate::room::Room;
 use crate::run::Run;
 use crate::status::Status;
-use bushingowl::{count_steps, unpack, RECORD};
+use bushingowl::{unpack, RECORD};
 use std::path::PathBuf;
 
 pub const COMMAND: Command = Command {
@@ -48,7 +48,7 @@ fn run(given: &Given) -> Result<Status, Usage> {
         ending: None,
         naming: Some(Naming {
             off: &[".asc", ".txt"],
-            on: ".trc",
+            on: ".trc".to_string(),
             folder: given.value(&OUTPUT).map(PathBuf::from),
         }),
     };
@@ -72,17 +72,11 @@ impl Work for Back {
             .unwrap_or_else(|| version_of(&room.records[..rows * RECORD]));
         let first = u64::from(rows > 0);
         let bytes = written(room, version, lines.start, first, rows)?;
-        let records = &room.records[..rows * RECORD];
-        let counts = Counts::default()
-            .with(Count::Lines, rows)
-            .with(Count::StepsBack, count_steps(records));
-        let (version, first) = (Some(version), Some(first));
         Ok(Made {
-            version,
-            first,
-            counts,
+            version: Some(version),
+            first: Some(first),
             bytes,
-            ..Made::of_ascii(&lines, records)
+            ..Made::of_ascii(&lines, &room.records)
         })
     }
 }

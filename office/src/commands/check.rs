@@ -2,14 +2,13 @@
 
 use super::{reading, Command};
 use crate::arguments::{Given, Usage};
-use crate::counts::{Count, Counts};
+use crate::counts::Count;
 use crate::jobs::{Made, Refusal, Work};
 use crate::options::{ASCII, JOBS, REPORT_JSON};
 use crate::report::Wording;
 use crate::room::Room;
 use crate::run::Run;
 use crate::status::Status;
-use bushingowl::{count_steps, RECORD};
 
 pub const COMMAND: Command = Command {
     name: "check",
@@ -68,14 +67,7 @@ impl Work for Check {
 
     fn work(&self, room: &mut Room) -> Result<Made, Refusal> {
         let trace = reading::trace(room)?;
-        let records = &room.records[..trace.rows * RECORD];
-        let counts = Counts::default()
-            .with(Count::Rows, trace.rows)
-            .with(Count::StepsBack, count_steps(records));
-        Ok(Made {
-            counts,
-            ..Made::of(&trace)
-        })
+        Ok(Made::of(&trace, &room.records))
     }
 }
 
@@ -88,13 +80,6 @@ impl Work for CheckAscii {
 
     fn work(&self, room: &mut Room) -> Result<Made, Refusal> {
         let lines = reading::ascii(room)?;
-        let records = &room.records[..lines.records * RECORD];
-        let counts = Counts::default()
-            .with(Count::Lines, lines.records)
-            .with(Count::StepsBack, count_steps(records));
-        Ok(Made {
-            counts,
-            ..Made::of_ascii(&lines, records)
-        })
+        Ok(Made::of_ascii(&lines, &room.records))
     }
 }

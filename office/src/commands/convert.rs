@@ -2,7 +2,7 @@
 
 use super::{reading, Command};
 use crate::arguments::{number, Given, Usage};
-use crate::counts::{Count, Counts};
+use crate::counts::Count;
 use crate::jobs::{Made, Refusal, Work};
 use crate::options::{CHANNEL, FORCE, JOBS, OUTPUT, REPORT_JSON};
 use crate::plan::Naming;
@@ -10,7 +10,7 @@ use crate::report::Wording;
 use crate::room::Room;
 use crate::run::Run;
 use crate::status::Status;
-use bushingowl::{count_steps, export, CHANNEL_AS_BENCH, MOST_LINE, MOST_ROWS, RECORD};
+use bushingowl::{export, CHANNEL_AS_BENCH, MOST_LINE, MOST_ROWS, RECORD};
 use std::path::PathBuf;
 
 pub const COMMAND: Command = Command {
@@ -48,7 +48,7 @@ fn run(given: &Given) -> Result<Status, Usage> {
         ending: Some(".trc"),
         naming: Some(Naming {
             off: &[".trc"],
-            on: ".asc",
+            on: ".asc".to_string(),
             folder: given.value(&OUTPUT).map(PathBuf::from),
         }),
     };
@@ -81,15 +81,15 @@ impl Work for Convert {
             .library
             .time(|| export(trace.start, self.channel, records, output));
         let exported = exported.map_err(Refusal::alone)?;
-        let counts = Counts::default()
-            .with(Count::Rows, trace.rows)
+        let made = Made::of(&trace, &room.records);
+        let counts = made
+            .counts
             .with(Count::Lines, exported.lines)
-            .with(Count::LeftOut, exported.left_out)
-            .with(Count::StepsBack, count_steps(records));
+            .with(Count::LeftOut, exported.left_out);
         Ok(Made {
             counts,
             bytes: exported.bytes,
-            ..Made::of(&trace)
+            ..made
         })
     }
 }

@@ -6,7 +6,7 @@ use crate::excerpt::excerpt;
 use crate::fault::{self, Fault};
 use crate::options::ASCII;
 use crate::output::{say, Output};
-use crate::room::{are_had, Room};
+use crate::room::{is_memory_for, Room};
 use crate::status::Status;
 use crate::words::{self, many};
 use bushingowl::{read, read_ascii, Refused};
@@ -67,7 +67,7 @@ pub fn one_file(given: &Given) -> Result<&PathBuf, Usage> {
 
 /// A room with a file's text. Where it can't be had, that is said.
 pub fn loaded(name: &Path) -> Option<Room> {
-    if !are_had(1, 0) {
+    if !is_memory_for(1, 0) {
         say("there is not enough memory");
         return None;
     }

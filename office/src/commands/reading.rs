@@ -1,9 +1,10 @@
 //! Reading what a room holds, as every command does it.
 
+use crate::counts::{Count, Counts};
 use crate::fault;
 use crate::jobs::{Made, Refusal};
 use crate::room::Room;
-use bushingowl::{read, read_ascii, unpack, Read, ReadAscii, Reason, Refused, RECORD};
+use bushingowl::{count_steps, read, read_ascii, unpack, Read, ReadAscii, Reason, Refused, RECORD};
 
 /// Reads the text as a trace.
 pub fn trace(room: &mut Room) -> Result<Read, Refusal> {
@@ -45,29 +46,35 @@ impl Refusal {
 }
 
 impl Made {
-    /// What is known of a trace when it is read.
-    pub fn of(trace: &Read) -> Made {
+    /// What is known of a trace when it is read; the records begin with its own.
+    pub fn of(trace: &Read, records: &[u8]) -> Made {
         Made {
             version: Some(trace.version),
             start: trace.start,
             first: Some(trace.first),
             first_step_back: trace.step_back.map(|at| trace.first + at as u64 - 1),
-            counts: Default::default(),
+            counts: counted(Count::Rows, trace.rows, records),
             bytes: 0,
         }
     }
 
-    /// What is known of lines of Telemotive ASCII when they are read.
+    /// What is known of lines of Telemotive ASCII when they are read; the records begin with theirs.
     pub fn of_ascii(lines: &ReadAscii, records: &[u8]) -> Made {
         let steps_back = |record| unpack(record).is_ok_and(|record| record.mark);
-        let at = records.chunks(RECORD).position(steps_back);
+        let mut own = records.chunks(RECORD).take(lines.records);
         Made {
             version: None,
             start: lines.start,
             first: None,
-            first_step_back: at.map(|at| at as u64 + 1),
-            counts: Default::default(),
+            first_step_back: own.position(steps_back).map(|at| at as u64 + 1),
+            counts: counted(Count::Lines, lines.records, records),
             bytes: 0,
         }
     }
+}
+
+fn counted(what: Count, number: usize, records: &[u8]) -> Counts {
+    Counts::default()
+        .with(what, number)
+        .with(Count::StepsBack, count_steps(&records[..number * RECORD]))
 }

@@ -54,7 +54,7 @@ fn held(room: &mut Room, ascii: bool) -> Result<(Made, usize), Refusal> {
     if ascii {
         let lines = reading::ascii(room)?;
         let rows = lines.records;
-        let made = Made::of_ascii(&lines, &room.records[..rows * RECORD]);
+        let made = Made::of_ascii(&lines, &room.records);
         return Ok((
             Made {
                 first: Some(1),
@@ -64,7 +64,7 @@ fn held(room: &mut Room, ascii: bool) -> Result<(Made, usize), Refusal> {
         ));
     }
     let trace = reading::trace(room)?;
-    Ok((Made::of(&trace), trace.rows))
+    Ok((Made::of(&trace, &room.records), trace.rows))
 }
 
 #[derive(Clone, Copy)]

@@ -2,7 +2,7 @@
 
 use super::{reading, Command};
 use crate::arguments::{Given, Usage};
-use crate::counts::{Count, Counts};
+use crate::counts::Count;
 use crate::fault;
 use crate::jobs::{Made, Refusal, Work};
 use crate::options::{FORCE, JOBS, OUTPUT, REPORT_JSON, VERSION, VERSION_NEEDED};
@@ -11,8 +11,8 @@ use crate::report::Wording;
 use crate::room::Room;
 use crate::run::Run;
 use crate::status::Status;
-use crate::words::version_number;
-use bushingowl::{count_steps, MOST_HEADER, MOST_ROW, MOST_ROWS, RECORD};
+use crate::words::{self, version_number};
+use bushingowl::{MOST_HEADER, MOST_ROW, MOST_ROWS, RECORD};
 use std::path::PathBuf;
 
 pub const COMMAND: Command = Command {
@@ -53,11 +53,7 @@ fn run(given: &Given) -> Result<Status, Usage> {
         ending: None,
         naming: Some(Naming {
             off: &[".trc"],
-            on: if version == 11 {
-                "-1.1.trc"
-            } else {
-                "-1.2.trc"
-            },
+            on: format!("-{}.trc", words::version(version)),
             folder: given.value(&OUTPUT).map(PathBuf::from),
         }),
     };
@@ -106,16 +102,10 @@ impl Work for Write {
     fn work(&self, room: &mut Room) -> Result<Made, Refusal> {
         let trace = reading::trace(room)?;
         let bytes = written(room, self.version, trace.start, trace.first, trace.rows)?;
-        let records = &room.records[..trace.rows * RECORD];
-        let counts = Counts::default()
-            .with(Count::Rows, trace.rows)
-            .with(Count::StepsBack, count_steps(records));
-        let version = Some(self.version);
         Ok(Made {
-            version,
-            counts,
+            version: Some(self.version),
             bytes,
-            ..Made::of(&trace)
+            ..Made::of(&trace, &room.records)
         })
     }
 }

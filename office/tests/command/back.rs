@@ -135,6 +135,16 @@ fn refuses_lines_with_and_without_a_bus() {
 }
 
 #[test]
+fn gives_no_name_to_a_folder_that_a_file_beside_it_needs() {
+    let scratch = Scratch::new();
+    scratch.sample("edited.asc");
+    scratch.folder("edited");
+    let ran = scratch.owl("back edited edited.asc").ended(2);
+    assert_eq!(ran.failure_of("edited"), "is a folder");
+    assert_eq!(scratch.names("."), ["edited", "edited.asc", "edited.trc"]);
+}
+
+#[test]
 fn takes_no_folder() {
     let scratch = Scratch::new();
     scratch.put("week/a.asc", LINE);
