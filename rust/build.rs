@@ -1,5 +1,8 @@
 //! Links the library's archive, whose path the script `library` beside this file prints: that of the file that BUSHINGOWL_LIB names, or else of
-//! the one that is proved and made here.
+//! the one that is proved and made here. Makes the functions of `src/words.rs`.
+
+#[path = "build/words.rs"]
+mod words;
 
 use std::env;
 use std::ffi::OsString;
@@ -8,9 +11,28 @@ use std::path::{Path, PathBuf};
 use std::process::{exit, Command, Stdio};
 
 fn main() {
+    let folder = PathBuf::from(set_by_cargo("OUT_DIR"));
+    make_words(&folder);
+    link(&folder);
+}
+
+/// Makes a function of each line of `words.txt`.
+fn make_words(folder: &Path) {
+    let here = set_by_cargo("CARGO_MANIFEST_DIR");
+    let file = Path::new(&here).join("../words.txt");
+    let text = fs::read_to_string(&file)
+        .unwrap_or_else(|error| panic!("{} can't be read: {error}", file.display()));
+    let made = folder.join("words.rs");
+    if let Err(error) = fs::write(&made, words::functions(&text)) {
+        panic!("{} can't be written: {error}", made.display());
+    }
+    println!("cargo:rerun-if-changed=../words.txt");
+}
+
+/// Links the archive.
+fn link(folder: &Path) {
     let archive = archive();
     // A copy, so that an archive just made does not count as changed.
-    let folder = PathBuf::from(set_by_cargo("OUT_DIR"));
     if let Err(error) = fs::copy(&archive, folder.join("libcapi.a")) {
         panic!("{} can't be copied: {error}", archive.display());
     }

@@ -1,5 +1,6 @@
 //! The parts of a line of Telemotive ASCII.
 
+use crate::words;
 use std::fmt;
 
 /// A part of a line of Telemotive ASCII, by what may stand in it. It is shown by its name.
@@ -81,17 +82,17 @@ impl AsciiPart {
 
 impl fmt::Display for AsciiPart {
     fn fmt(&self, f: &mut fmt::Formatter) -> fmt::Result {
-        match self {
-            AsciiPart::Date => write!(f, "date"),
-            AsciiPart::Time => write!(f, "time"),
-            AsciiPart::Type => write!(f, "message type"),
-            AsciiPart::Channel => write!(f, "channel"),
-            AsciiPart::Bar => write!(f, "bar"),
-            AsciiPart::Extended => write!(f, "EXTENDED"),
-            AsciiPart::Direction => write!(f, "direction"),
-            AsciiPart::Id { .. } => write!(f, "ID"),
-            AsciiPart::Length => write!(f, "length"),
-            AsciiPart::Data { byte, of } => write!(f, "data byte {byte} of {of}"),
-        }
+        f.write_str(&match self {
+            AsciiPart::Date => words::part_date(),
+            AsciiPart::Time => words::part_time(),
+            AsciiPart::Type => words::part_type(),
+            AsciiPart::Channel => words::part_channel(),
+            AsciiPart::Bar => words::part_bar(),
+            AsciiPart::Extended => words::part_extended(),
+            AsciiPart::Direction => words::part_direction(),
+            AsciiPart::Id { .. } => words::part_id(),
+            AsciiPart::Length => words::part_length(),
+            AsciiPart::Data { byte, of } => words::part_data(byte, of),
+        })
     }
 }

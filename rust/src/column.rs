@@ -1,5 +1,6 @@
 //! The columns of a row.
 
+use crate::words;
 use std::fmt;
 
 /// A column of a row, by what may stand in it. It is shown by its name.
@@ -88,18 +89,18 @@ impl Column {
 
 impl fmt::Display for Column {
     fn fmt(&self, f: &mut fmt::Formatter) -> fmt::Result {
-        match self {
-            Column::Number => write!(f, "row number"),
-            Column::Offset => write!(f, "offset"),
-            Column::Bus => write!(f, "bus"),
-            Column::Type => write!(f, "type"),
-            Column::Id => write!(f, "ID"),
-            Column::Length => write!(f, "length"),
-            Column::FirstOrRemote { of: 0 } => write!(f, "RTR or nothing"),
-            Column::FirstOrRemote { of } => write!(f, "RTR or data byte 1 of {of}"),
-            Column::Data { byte, of } => write!(f, "data byte {byte} of {of}"),
-            Column::Word => write!(f, "word"),
-            Column::End => write!(f, "end of the row"),
-        }
+        f.write_str(&match self {
+            Column::Number => words::column_number(),
+            Column::Offset => words::column_offset(),
+            Column::Bus => words::column_bus(),
+            Column::Type => words::column_type(),
+            Column::Id => words::column_id(),
+            Column::Length => words::column_length(),
+            Column::FirstOrRemote { of: 0 } => words::column_remote_or_nothing(),
+            Column::FirstOrRemote { of } => words::column_remote_or_data(of),
+            Column::Data { byte, of } => words::column_data(byte, of),
+            Column::Word => words::column_word(),
+            Column::End => words::column_end(),
+        })
     }
 }

@@ -1,92 +1,70 @@
 //! What may stand in a place, in words.
 
-use crate::{AsciiFault, AsciiPart, Column, LINE_LIMIT, MOST_OFFSET};
-
-/// Behind "a" or "a row": what the row number may be where no row stands before.
-pub(crate) const ANY_NUMBER: &str = "number from 1 to 999999 and \")\"";
-/// Behind the last row number that there is.
-pub(crate) const NO_ROW: &str = "a comment, or the end of the file";
-
-const BYTE: &str = "two hexadecimal digits";
+use crate::{words, AsciiFault, AsciiPart, Column, LINE_LIMIT, MOST_OFFSET};
 
 /// What may stand in a column of a row of this version. The number is the one that it must have, or 0 for any; the type is
 /// looked at in the columns behind it.
 pub(crate) fn in_column(column: Column, version: u32, number: u64, kind: &[u8]) -> String {
-    let words = match (column, kind) {
-        (Column::Number, _) if number == 0 => return format!("a {ANY_NUMBER}"),
-        (Column::Number, _) => return format!("\"{number})\""),
-        (Column::Offset, _) if version == 11 => {
-            "milliseconds without leading zeros, with one digit behind the point, up to 281474976710.6"
-        }
-        (Column::Offset, _) => {
-            "milliseconds without leading zeros, with three digits behind the point, up to 281474976710.655"
-        }
-        (Column::Bus, _) => "a bus from 1 to 16, without leading zeros",
-        (Column::Type, _) => "Rx, Tx, Warng or Error",
-        (Column::Id, b"Warng") => "FFFFFFFF",
-        (Column::Id, b"Error") => "0001, 0002, 0004 or 0008",
-        (Column::Id, _) => {
-            "an ID of four hexadecimal digits up to 07FF, or of eight up to 1FFFFFFF"
-        }
-        (Column::Length, b"Warng" | b"Error") => "the length 4",
-        (Column::Length, _) => "a length from 0 to 8",
-        (Column::FirstOrRemote { of: 0 }, _) => "RTR, or the end of the row",
+    match (column, kind) {
+        (Column::Number, _) if number == 0 => words::in_number_any(words::any_number()),
+        (Column::Number, _) => words::in_number(number),
+        (Column::Offset, _) if version == 11 => words::in_offset_11(),
+        (Column::Offset, _) => words::in_offset_12(),
+        (Column::Bus, _) => words::in_bus(),
+        (Column::Type, _) => words::in_type(),
+        (Column::Id, b"Warng") => words::in_id_of_warning(),
+        (Column::Id, b"Error") => words::in_id_of_error(),
+        (Column::Id, _) => words::in_id(),
+        (Column::Length, b"Warng" | b"Error") => words::in_length_four(),
+        (Column::Length, _) => words::in_length(),
+        (Column::FirstOrRemote { of: 0 }, _) => words::in_remote_or_nothing(),
         (Column::FirstOrRemote { .. }, _) => {
-            return format!("RTR, or {}: {BYTE}", column.taken());
+            words::in_remote_or_data(column.taken(), words::any_byte())
         }
-        (Column::Data { byte, .. }, b"Error") => {
-            return format!("{column}: {}", in_error_frame(byte));
-        }
-        (Column::Data { .. }, _) => return format!("{column}: {BYTE}"),
-        (Column::Word, _) => "a word of capital letters, or the end of the row",
-        (Column::End, _) => "the end of the row",
-    };
-    words.to_string()
+        (Column::Data { byte, .. }, b"Error") => words::in_data(column, in_error_frame(byte)),
+        (Column::Data { .. }, _) => words::in_data(column, words::any_byte()),
+        (Column::Word, _) => words::in_word(),
+        (Column::End, _) => words::in_end(),
+    }
 }
 
 /// What may stand in a data byte of an error frame, from 1.
-fn in_error_frame(byte: u8) -> &'static str {
+fn in_error_frame(byte: u8) -> String {
     match byte {
-        1 => "00 (sending) or 01 (receiving)",
-        2 => "a bit stream position, 02 to 0F, 11, 12, 13 or 17 to 1C",
-        _ => "an error counter of two hexadecimal digits",
+        1 => words::error_direction(),
+        2 => words::error_position(),
+        _ => words::error_counter(),
     }
 }
 
 /// What may stand in a line of Telemotive ASCII in place of what is wrong.
 pub(crate) fn instead_of(fault: AsciiFault) -> String {
-    let words = match fault {
-        AsciiFault::NotEnded => "CR LF or LF",
-        AsciiFault::TooLong => return format!("at most {LINE_LIMIT} bytes"),
-        AsciiFault::WrongPart { part, .. } => return in_part(part),
-        AsciiFault::EndedEarly { next, .. } => return in_part(next),
-        AsciiFault::Empty => return in_part(AsciiPart::Date),
-        AsciiFault::BlankBefore => "the date, with no blank before it",
-        AsciiFault::BlankBehind | AsciiFault::OneTooMany { .. } => "the end of the line",
-        AsciiFault::BeforeStart => "a stamp not before that of line 1, cut to the millisecond",
-        AsciiFault::TooFarBehindStart => {
-            return format!(
-                "a stamp at most {MOST_OFFSET} microseconds behind that of line 1, cut to the millisecond"
-            );
-        }
-    };
-    words.to_string()
+    match fault {
+        AsciiFault::NotEnded => words::instead_of_no_end(),
+        AsciiFault::TooLong => words::instead_of_too_long(LINE_LIMIT),
+        AsciiFault::WrongPart { part, .. } => in_part(part),
+        AsciiFault::EndedEarly { next, .. } => in_part(next),
+        AsciiFault::Empty => in_part(AsciiPart::Date),
+        AsciiFault::BlankBefore => words::instead_of_blank_before(),
+        AsciiFault::BlankBehind | AsciiFault::OneTooMany { .. } => words::instead_of_blank_behind(),
+        AsciiFault::BeforeStart => words::instead_of_before_start(),
+        AsciiFault::TooFarBehindStart => words::instead_of_too_far(MOST_OFFSET),
+    }
 }
 
 /// What may stand in a part of a line of Telemotive ASCII.
 fn in_part(part: AsciiPart) -> String {
-    let words = match part {
-        AsciiPart::Date => "a date that exists, from 30.12.1899 to 13.10.2173",
-        AsciiPart::Time => "a time from 00:00:00.0000 to 23:59:59.9999",
-        AsciiPart::Type => "CAN or CANExt",
-        AsciiPart::Channel => "a channel from #0 to #16",
-        AsciiPart::Bar => "|",
-        AsciiPart::Extended => "EXTENDED",
-        AsciiPart::Direction => "Rx or Tx",
-        AsciiPart::Id { extended: false } => "an ID of three hexadecimal digits up to 7ff",
-        AsciiPart::Id { extended: true } => "an ID of eight hexadecimal digits up to 1fffffff",
-        AsciiPart::Length => "a length from 0 to 8",
-        AsciiPart::Data { .. } => return format!("{part}: {BYTE}"),
-    };
-    words.to_string()
+    match part {
+        AsciiPart::Date => words::in_part_date(),
+        AsciiPart::Time => words::in_part_time(),
+        AsciiPart::Type => words::in_part_type(),
+        AsciiPart::Channel => words::in_part_channel(),
+        AsciiPart::Bar => words::in_part_bar(),
+        AsciiPart::Extended => words::in_part_extended(),
+        AsciiPart::Direction => words::in_part_direction(),
+        AsciiPart::Id { extended: false } => words::in_part_id(),
+        AsciiPart::Id { extended: true } => words::in_part_id_extended(),
+        AsciiPart::Length => words::in_part_length(),
+        AsciiPart::Data { .. } => words::in_part_data(part, words::any_byte()),
+    }
 }

@@ -1,10 +1,10 @@
 //! What is wrong with a line that is no row.
 
-use crate::expected::{in_column, ANY_NUMBER, NO_ROW};
+use crate::expected::in_column;
 use crate::line::{cut, parts, place_of, places};
 use crate::quoted::Quoted;
 use crate::refused::accepted;
-use crate::{numbers, read, room_for_rows, Column, Reason, Refused, MOST_ROWS};
+use crate::{numbers, read, room_for_rows, words, Column, Reason, Refused, MOST_ROWS};
 use std::fmt;
 use std::ops::Range;
 
@@ -135,7 +135,7 @@ impl RowExplanation<'_> {
         let column = match self.fault {
             RowFault::WrongField { column, .. } => column,
             RowFault::EndedEarly { next, .. } => next,
-            RowFault::NoNumberLeft => return NO_ROW.to_string(),
+            RowFault::NoNumberLeft => return words::in_no_row(),
         };
         let kind = Column::type_among(self.version, &parts(self.bytes));
         in_column(column, self.version, self.number, kind)
@@ -229,39 +229,28 @@ fn fault_of(line: &[u8], version: u32, number: u64) -> Option<RowFault<'_>> {
 impl fmt::Display for RowExplanation<'_> {
     fn fmt(&self, f: &mut fmt::Formatter) -> fmt::Result {
         let expected = self.expected();
-        match self.fault {
+        f.write_str(&match self.fault {
             RowFault::WrongField {
                 field,
                 column,
                 bytes,
-            } => {
-                let bytes = Quoted(bytes);
-                match column {
-                    Column::Number => write!(
-                        f,
-                        "field {field} ({column}) is wrong: {bytes} instead of {expected}"
-                    ),
-                    Column::End => write!(f, "field {field} is one too many: {bytes}"),
-                    _ => write!(f, "field {field} ({column}) is wrong: {bytes}"),
-                }
-            }
+            } => match (column, Quoted(bytes)) {
+                (Column::Number, bytes) => words::row_wrong_number(field, column, bytes, expected),
+                (Column::End, bytes) => words::row_one_too_many(field, bytes),
+                (_, bytes) => words::row_wrong_field(field, column, bytes),
+            },
             RowFault::EndedEarly {
                 column: None, next, ..
             } => match self.number {
-                0 => write!(f, "the line is empty: a row {ANY_NUMBER} was expected"),
-                _ => write!(f, "the line is empty: {next} {expected} was expected"),
+                0 => words::row_empty_first(words::any_number()),
+                _ => words::row_empty(next, expected),
             },
             RowFault::EndedEarly {
                 field,
                 column: Some(column),
                 next,
-            } => write!(
-                f,
-                "the row ended early after field {field} ({column}): {next} was expected next"
-            ),
-            RowFault::NoNumberLeft => {
-                f.write_str("row number 999999 stands before it, and no row may follow")
-            }
-        }
+            } => words::row_ended_early(field, column, next),
+            RowFault::NoNumberLeft => words::row_no_number_left(),
+        })
     }
 }

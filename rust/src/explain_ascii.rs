@@ -3,11 +3,9 @@
 use crate::expected::instead_of;
 use crate::line::{cut, parts, place_of, places};
 use crate::quoted::Quoted;
-use crate::{read_ascii, AsciiPart, Reason, Refused, LINE_LIMIT, MOST_OFFSET, RECORD};
+use crate::{read_ascii, words, AsciiPart, Reason, Refused, LINE_LIMIT, MOST_OFFSET, RECORD};
 use std::fmt;
 use std::ops::Range;
-
-const START: &str = "the start, that of line 1 cut to the millisecond";
 
 /// The line at which lines of Telemotive ASCII are refused, and why. It is shown in words, in which a part is cut behind 40
 /// bytes and bytes that can't be seen are written as `\x09`; so are `"` and `\`.
@@ -180,30 +178,24 @@ impl AsciiExplanation<'_> {
 
 impl fmt::Display for AsciiExplanation<'_> {
     fn fmt(&self, f: &mut fmt::Formatter) -> fmt::Result {
-        match self.fault {
-            AsciiFault::NotEnded => write!(f, "the line is not ended by CR LF or LF"),
-            AsciiFault::TooLong => write!(f, "the line has more than {LINE_LIMIT} bytes"),
+        f.write_str(&match self.fault {
+            AsciiFault::NotEnded => words::ascii_not_ended(),
+            AsciiFault::TooLong => words::ascii_too_long(LINE_LIMIT),
             AsciiFault::WrongPart {
                 number,
                 part,
                 bytes,
-            } => write!(f, "part {number} ({part}) is wrong: {}", Quoted(bytes)),
+            } => words::ascii_wrong_part(number, part, Quoted(bytes)),
             AsciiFault::OneTooMany { number, bytes } => {
-                write!(f, "part {number} is one too many: {}", Quoted(bytes))
+                words::ascii_one_too_many(number, Quoted(bytes))
             }
-            AsciiFault::BlankBefore | AsciiFault::BlankBehind => {
-                write!(f, "a blank stands before the first part or behind the last")
+            AsciiFault::BlankBefore | AsciiFault::BlankBehind => words::ascii_blank(),
+            AsciiFault::Empty => words::ascii_empty(AsciiPart::Date),
+            AsciiFault::EndedEarly { number, part, next } => {
+                words::ascii_ended_early(number, part, next)
             }
-            AsciiFault::Empty => write!(f, "the line is empty: {} was expected", AsciiPart::Date),
-            AsciiFault::EndedEarly { number, part, next } => write!(
-                f,
-                "the line ended early after part {number} ({part}): {next} was expected next"
-            ),
-            AsciiFault::BeforeStart => write!(f, "its stamp lies before {START}"),
-            AsciiFault::TooFarBehindStart => write!(
-                f,
-                "its stamp lies more than {MOST_OFFSET} microseconds behind {START}"
-            ),
-        }
+            AsciiFault::BeforeStart => words::ascii_before_start(),
+            AsciiFault::TooFarBehindStart => words::ascii_too_far(MOST_OFFSET),
+        })
     }
 }

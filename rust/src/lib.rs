@@ -53,6 +53,7 @@ pub mod numbers;
 mod quoted;
 mod record;
 mod refused;
+mod words;
 
 pub use ascii_part::AsciiPart;
 pub use column::Column;

@@ -1,6 +1,6 @@
 //! Why a call was refused.
 
-use crate::{LINE_LIMIT, MOST_CHANNEL, MOST_OFFSET, MOST_ROWS, MOST_TEXT};
+use crate::{words, LINE_LIMIT, MOST_CHANNEL, MOST_OFFSET, MOST_ROWS, MOST_TEXT};
 use std::error::Error;
 use std::fmt;
 
@@ -119,38 +119,40 @@ impl Refused {
     pub fn number(&self) -> u64 {
         self.reason.number()
     }
+
+    /// The words without the number.
+    fn in_words(&self) -> String {
+        let place = self.place;
+        let rows = separated(MOST_ROWS as u64);
+        match self.reason {
+            Reason::TextTooLong => words::refusal_1(separated(MOST_TEXT as u64)),
+            Reason::LineNotEnded => words::refusal_2(place),
+            Reason::LineTooLong => words::refusal_3(place, LINE_LIMIT),
+            Reason::NoVersionLine => words::refusal_4(place),
+            Reason::NoStartLine => words::refusal_5(place),
+            Reason::DollarComment => words::refusal_6(place),
+            Reason::NoRow => words::refusal_7(place),
+            Reason::NoRoomForRecords => words::refusal_8(),
+            Reason::NoRecords => words::refusal_20(rows),
+            Reason::NoVersion => words::refusal_21(),
+            Reason::StartTooLate => words::refusal_22(),
+            Reason::NotWellFormed => words::refusal_23(place),
+            Reason::NotCarried => words::refusal_24(place),
+            Reason::NoRoom => words::refusal_25(),
+            Reason::WrongFirstNumber => words::refusal_26(rows),
+            Reason::Unexplained => words::refusal_30(rows),
+            Reason::NoAsciiLine => words::refusal_31(place, LINE_LIMIT),
+            Reason::BeforeStart => words::refusal_32(place),
+            Reason::OffsetTooLarge => words::refusal_33(place, separated(MOST_OFFSET)),
+            Reason::TooManyLines => words::refusal_34(rows),
+            Reason::NoChannel => words::refusal_35(MOST_CHANNEL),
+        }
+    }
 }
 
 impl fmt::Display for Refused {
     fn fmt(&self, f: &mut fmt::Formatter) -> fmt::Result {
-        let place = self.place;
-        let text = separated(MOST_TEXT as u64);
-        let rows = separated(MOST_ROWS as u64);
-        let offset = separated(MOST_OFFSET);
-        match self.reason {
-            Reason::TextTooLong => write!(f, "the text has more than {text} bytes"),
-            Reason::LineNotEnded => write!(f, "line {place} is not ended by CR LF"),
-            Reason::LineTooLong => write!(f, "line {place} has more than {LINE_LIMIT} bytes"),
-            Reason::NoVersionLine => write!(f, "line {place} is no ;$FILEVERSION=1.1 or 1.2"),
-            Reason::NoStartLine => write!(f, "line {place} is no ;$STARTTIME= up to day 99,999"),
-            Reason::DollarComment => write!(f, "line {place} is a comment with $ first"),
-            Reason::NoRow => write!(f, "line {place} is no row"),
-            Reason::NoRoomForRecords => write!(f, "the output is too short for the records"),
-            Reason::NoRecords => write!(f, "the bytes are not 20 for each record, up to {rows}"),
-            Reason::NoVersion => write!(f, "the version is neither 11 nor 12"),
-            Reason::StartTooLate => write!(f, "the start lies past day 99,999"),
-            Reason::NotWellFormed => write!(f, "record {place} is not well formed, or its mark is wrong"),
-            Reason::NotCarried => write!(f, "the version can't carry record {place}"),
-            Reason::NoRoom => write!(f, "the output is too short"),
-            Reason::WrongFirstNumber => write!(f, "the first number is 0 with records or not 0 without, or the last row's would be above {rows}"),
-            Reason::Unexplained => write!(f, "the line is a row or a comment or holds CR or LF, or its number is above {rows}"),
-            Reason::NoAsciiLine => write!(f, "line {place} is no line of Telemotive ASCII, or has more than {LINE_LIMIT} bytes, or is not ended"),
-            Reason::BeforeStart => write!(f, "the stamp of line {place} lies before the start, that of line 1 cut to the millisecond"),
-            Reason::OffsetTooLarge => write!(f, "the stamp of line {place} lies more than {offset} microseconds behind the start"),
-            Reason::TooManyLines => write!(f, "there are more than {rows} lines"),
-            Reason::NoChannel => write!(f, "the channel of bus 0 is above {MOST_CHANNEL}"),
-        }?;
-        write!(f, " (refusal {})", self.number())
+        f.write_str(&words::refusal(self.in_words(), self.number()))
     }
 }
 
