@@ -8,8 +8,10 @@
 //! begins with the bytes written and behind them holds what it held before; if refused, all of it does. [`unpack`] and
 //! [`pack`] are for single records. [`explain_refusal`] tells which field of a refused row is wrong, where it stands and
 //! what was expected there; [`explain_refusal_with`] does so in room that the caller lends, and [`explain()`] tells the
-//! field of a single line. [`explain_ascii_refusal`] tells the same of a refused line of Telemotive ASCII. [`numbers`] has
-//! the functions of the library with the plain numbers of the C boundary.
+//! field of a single line. [`explain_ascii_refusal`] tells the same of a refused line of Telemotive ASCII. For the person
+//! who has to mend a file, [`fault_of_trace`] and [`fault_of_ascii`] tell it of every line that is refused, whatever the
+//! number, [`fault_of_record`] of a record that a version can't carry, and [`Refused::remedy`] what to do about it.
+//! [`numbers`] has the functions of the library with the plain numbers of the C boundary.
 //!
 //! A start counts milliseconds from 30 December 1899, 0:00, in the local time of the logger (1 January 1970 is day
 //! 25,569), and is at most [`MOST_START`]. An offset counts microseconds from the start, and is at most [`MOST_OFFSET`].
@@ -47,13 +49,16 @@ mod column;
 mod expected;
 mod explain;
 mod explain_ascii;
+mod fault;
 mod line;
 mod marks;
 pub mod numbers;
 mod quoted;
 mod record;
 mod refused;
+mod shown;
 mod words;
+mod wrong;
 
 pub use ascii_part::AsciiPart;
 pub use column::Column;
@@ -62,10 +67,12 @@ pub use explain::{
     RowReason,
 };
 pub use explain_ascii::{explain_ascii_refusal, AsciiExplanation, AsciiFault};
+pub use fault::{fault_of_ascii, fault_of_record, fault_of_trace, Fault};
 pub use marks::{count_steps, mark_steps};
 pub use quoted::Quoted;
 pub use record::{Kind, Record};
 pub use refused::{Reason, Refused};
+pub use shown::{milliseconds, separated, VERSIONS};
 
 use refused::accepted;
 

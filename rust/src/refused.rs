@@ -1,6 +1,6 @@
 //! Why a call was refused.
 
-use crate::{words, LINE_LIMIT, MOST_CHANNEL, MOST_OFFSET, MOST_ROWS, MOST_TEXT};
+use crate::{separated, words, LINE_LIMIT, MOST_CHANNEL, MOST_OFFSET, MOST_ROWS, MOST_TEXT};
 use std::error::Error;
 use std::fmt;
 
@@ -120,6 +120,36 @@ impl Refused {
         self.reason.number()
     }
 
+    /// What to do about it, in words, where a file is refused: for the numbers 1 to 7 and 31 to 34. `None` for those of
+    /// what a program gave, such as an output that is too short.
+    ///
+    /// ```
+    /// use bushingowl::{read_ascii_to_vec, read_to_vec, unpack};
+    /// let remedy = read_to_vec(b";$FILEVERSION=1.3\r\n").unwrap_err().remedy();
+    /// assert_eq!(remedy.unwrap(), "save the trace again in one of these versions; no other is read");
+    /// let line = "29.02.2000 12:00:00.0000 CAN #1 | Rx 123 0\n";
+    /// let lines = format!("{line}{}", line.replace("12:", "11:"));
+    /// let remedy = read_ascii_to_vec(lines.as_bytes()).unwrap_err().remedy();
+    /// assert_eq!(remedy.unwrap(), "put the earliest line first, or mend the stamp");
+    /// assert_eq!(unpack(&[]).unwrap_err().remedy(), None);
+    /// ```
+    pub fn remedy(&self) -> Option<String> {
+        Some(match self.reason {
+            Reason::TextTooLong => words::remedy_1(),
+            Reason::LineNotEnded => words::remedy_2(),
+            Reason::LineTooLong => words::remedy_3(),
+            Reason::NoVersionLine => words::remedy_4(),
+            Reason::NoStartLine => words::remedy_5(),
+            Reason::DollarComment => words::remedy_6(),
+            Reason::NoRow => words::remedy_7(),
+            Reason::NoAsciiLine => words::remedy_31(),
+            Reason::BeforeStart => words::remedy_32(),
+            Reason::OffsetTooLarge => words::remedy_33(),
+            Reason::TooManyLines => words::remedy_34(separated(MOST_ROWS as u64)),
+            _ => return None,
+        })
+    }
+
     /// The words without the number.
     fn in_words(&self) -> String {
         let place = self.place;
@@ -157,14 +187,6 @@ impl fmt::Display for Refused {
 }
 
 impl Error for Refused {}
-
-/// A number with its thousands separated.
-fn separated(number: u64) -> String {
-    match number / 1000 {
-        0 => number.to_string(),
-        thousands => format!("{},{:03}", separated(thousands), number % 1000),
-    }
-}
 
 /// What the first two numbers of an answer say.
 pub(crate) fn accepted(number: u64, place: u64) -> Result<(), Refused> {
