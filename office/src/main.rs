@@ -9,7 +9,6 @@ mod arguments;
 mod commands;
 mod counts;
 mod excerpt;
-mod fault;
 mod jobs;
 mod json;
 mod options;

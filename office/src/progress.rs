@@ -1,6 +1,7 @@
 //! How far a run has come: a line on a terminal, and nothing elsewhere.
 
-use crate::words::{many, separated};
+use crate::words::many;
+use bushingowl::separated;
 use std::io::{self, IsTerminal, Write};
 use std::time::{Duration, Instant};
 

@@ -7,6 +7,7 @@ use crate::output::{say, Output};
 use crate::plan::Item;
 use crate::status::Status;
 use crate::words::{self, many};
+use bushingowl::separated;
 use std::collections::BTreeMap;
 use std::fs;
 use std::time::Duration;
@@ -166,7 +167,7 @@ impl Report {
     fn files(&self) -> String {
         let all = many(self.all_files(), "file", "files");
         let done = self.wording.done;
-        let mut text = format!("{all}: {} {done}", words::separated(self.done));
+        let mut text = format!("{all}: {} {done}", separated(self.done));
         let others = [
             (self.there, "already there"),
             (self.refused_files(), "refused"),
@@ -174,7 +175,7 @@ impl Report {
         ];
         for (number, what) in others {
             if number > 0 {
-                text += &format!(", {} {what}", words::separated(number));
+                text += &format!(", {} {what}", separated(number));
             }
         }
         text

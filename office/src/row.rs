@@ -1,8 +1,7 @@
 //! One record as a line: in plain words, as comma separated values, as JSON.
 
 use crate::json::Object;
-use crate::words::milliseconds;
-use bushingowl::{export, pack, Kind, Record, CHANNEL_AS_BUS, MOST_LINE, RECORD};
+use bushingowl::{export, milliseconds, pack, Kind, Record, CHANNEL_AS_BUS, MOST_LINE, RECORD};
 
 /// The bytes of a stamp at the beginning of an exported line.
 const STAMP: usize = 24;

@@ -1,5 +1,6 @@
 //! Names, numbers and errors as they are shown.
 
+use bushingowl::{separated, VERSIONS};
 use std::ffi::OsStr;
 use std::fmt::Write;
 use std::io;
@@ -48,14 +49,6 @@ pub fn wrapped(text: &str, indent: usize) -> String {
     lines + rest
 }
 
-/// A number with its thousands separated.
-pub fn separated(number: u64) -> String {
-    match number / 1000 {
-        0 => number.to_string(),
-        thousands => format!("{},{:03}", separated(thousands), number % 1000),
-    }
-}
-
 /// So many of something: `1 file`, `2 files`.
 pub fn many(number: u64, one: &str, more: &str) -> String {
     let noun = if number == 1 { one } else { more };
@@ -71,9 +64,6 @@ pub fn error(error: &io::Error) -> String {
         .to_string()
 }
 
-/// The versions, by their numbers and as a trace spells them.
-const VERSIONS: [(u32, &str); 2] = [(11, "1.1"), (12, "1.2")];
-
 /// A version as a trace spells it.
 pub fn version(number: u32) -> &'static str {
     let found = VERSIONS.iter().find(|(known, _)| *known == number);
@@ -84,11 +74,6 @@ pub fn version(number: u32) -> &'static str {
 pub fn version_number(word: &OsStr) -> Option<u32> {
     let found = VERSIONS.iter().find(|(_, spelled)| word == *spelled);
     found.map(|(number, _)| *number)
-}
-
-/// Microseconds as milliseconds.
-pub fn milliseconds(offset: u64) -> String {
-    format!("{}.{:03}", offset / 1000, offset % 1000)
 }
 
 #[cfg(test)]
@@ -111,9 +96,7 @@ mod tests {
     }
 
     #[test]
-    fn numbers_are_separated() {
-        let shown = [0, 999, 1000, 1_002_003].map(separated);
-        assert_eq!(shown, ["0", "999", "1,000", "1,002,003"]);
+    fn so_many_are_one_or_more() {
         assert_eq!(many(1, "file", "files"), "1 file");
         assert_eq!(many(2000, "file", "files"), "2,000 files");
     }

@@ -3,13 +3,12 @@
 use super::Command;
 use crate::arguments::{Given, Usage};
 use crate::excerpt::excerpt;
-use crate::fault::{self, Fault};
 use crate::options::ASCII;
 use crate::output::{say, Output};
 use crate::room::{is_memory_for, Room};
 use crate::status::Status;
 use crate::words::{self, many};
-use bushingowl::{read, read_ascii, Refused};
+use bushingowl::{fault_of_ascii, fault_of_trace, read, read_ascii, Fault, Refused};
 use std::path::{Path, PathBuf};
 
 pub const COMMAND: Command = Command {
@@ -38,7 +37,7 @@ fn run(given: &Given) -> Result<Status, Usage> {
         match read_ascii(text, records) {
             Ok(lines) => (good(lines.records, "line", "lines"), Status::AllDone),
             Err(refused) => (
-                explained(refused, fault::of_ascii(text, refused)),
+                explained(refused, fault_of_ascii(text, refused)),
                 Status::SomeRefused,
             ),
         }
@@ -46,7 +45,7 @@ fn run(given: &Given) -> Result<Status, Usage> {
         match read(text, records) {
             Ok(trace) => (good(trace.rows, "row", "rows"), Status::AllDone),
             Err(refused) => (
-                explained(refused, fault::of_trace(text, refused, records)),
+                explained(refused, fault_of_trace(text, refused, records)),
                 Status::SomeRefused,
             ),
         }

@@ -1,17 +1,19 @@
 //! Reading what a room holds, as every command does it.
 
 use crate::counts::{Count, Counts};
-use crate::fault;
 use crate::jobs::{Made, Refusal};
 use crate::room::Room;
-use bushingowl::{count_steps, read, read_ascii, unpack, Read, ReadAscii, Reason, Refused, RECORD};
+use bushingowl::{
+    count_steps, fault_of_ascii, fault_of_trace, read, read_ascii, unpack, Read, ReadAscii, Reason,
+    Refused, RECORD,
+};
 
 /// Reads the text as a trace.
 pub fn trace(room: &mut Room) -> Result<Read, Refusal> {
     let (text, records) = (room.text.bytes(), &mut room.records);
     room.library.time(|| {
         read(text, records).map_err(|refused| Refusal {
-            detail: fault::of_trace(text, refused, records).map(|fault| fault.why),
+            detail: fault_of_trace(text, refused, records).map(|fault| fault.why),
             refused,
         })
     })
@@ -31,7 +33,7 @@ pub fn ascii(room: &mut Room) -> Result<ReadAscii, Refusal> {
 /// What is wrong with a line that is none; for any other refusal its own words say all.
 fn ascii_detail(text: &[u8], refused: Refused) -> Option<String> {
     let is_none = refused.reason == Reason::NoAsciiLine;
-    let fault = is_none.then(|| fault::of_ascii(text, refused)).flatten();
+    let fault = is_none.then(|| fault_of_ascii(text, refused)).flatten();
     fault.map(|fault| fault.why)
 }
 

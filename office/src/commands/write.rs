@@ -3,7 +3,6 @@
 use super::{reading, Command};
 use crate::arguments::{Given, Usage};
 use crate::counts::Count;
-use crate::fault;
 use crate::jobs::{Made, Refusal, Work};
 use crate::options::{FORCE, JOBS, OUTPUT, REPORT_JSON, VERSION, VERSION_NEEDED};
 use crate::plan::Naming;
@@ -12,7 +11,7 @@ use crate::room::Room;
 use crate::run::Run;
 use crate::status::Status;
 use crate::words::{self, version_number};
-use bushingowl::{MOST_HEADER, MOST_ROW, MOST_ROWS, RECORD};
+use bushingowl::{fault_of_record, MOST_HEADER, MOST_ROW, MOST_ROWS, RECORD};
 use std::path::PathBuf;
 
 pub const COMMAND: Command = Command {
@@ -85,7 +84,7 @@ pub fn written(
         .library
         .time(|| bushingowl::write(version, start, first, records, output));
     bytes.map_err(|refused| Refusal {
-        detail: fault::of_record(version, records, refused),
+        detail: fault_of_record(version, records, refused),
         refused,
     })
 }
