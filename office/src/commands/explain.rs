@@ -83,17 +83,16 @@ fn good(number: usize, one: &str, more: &str) -> String {
     format!("good, with {}", many(number as u64, one, more))
 }
 
+/// The refusal, the line with what is wrong in it, and what to do about it. Where it is the file that is too long, there is no line to show.
 fn explained(refused: Refused, fault: Option<Fault>) -> String {
-    let Some(fault) = fault else {
-        return refused.to_string();
-    };
-    let Fault {
-        line,
-        bytes,
-        place,
-        why,
-        expected,
-    } = fault;
-    let excerpt = excerpt(line, bytes, &place);
-    format!("{refused}\n\n{excerpt}\n\n{why}\nexpected: {expected}")
+    let mut text = refused.to_string();
+    if let Some(fault) = fault {
+        let excerpt = excerpt(fault.line, fault.bytes, &fault.place);
+        let (why, expected) = (fault.why, fault.expected);
+        text += &format!("\n\n{excerpt}\n\n{why}\nexpected: {expected}");
+    }
+    if let Some(remedy) = refused.remedy() {
+        text += &format!("\nwhat to do: {remedy}");
+    }
+    text
 }

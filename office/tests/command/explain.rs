@@ -1,7 +1,8 @@
-//! `owl explain`: the refused line, what is wrong in it, and what was expected.
+//! `owl explain`: the refused line, what is wrong in it, what was expected, and what to do about it.
 
-use crate::common::traces::{rows, trace};
+use crate::common::traces::{rows, sample, trace};
 use crate::common::{Ran, Scratch};
+use bushingowl::{Reason, Refused};
 
 #[track_caller]
 fn explained(lines: &str) -> Ran {
@@ -74,7 +75,7 @@ fn says_the_number_of_the_line_and_what_was_expected() {
 }
 
 #[test]
-fn of_each_refusal_gives_reason_line_and_carets() {
+fn of_each_refusal_gives_reason_line_carets_and_what_to_do() {
     for broken in crate::common::traces::broken() {
         let scratch = Scratch::new();
         scratch.put(broken.name, &broken.text);
@@ -82,14 +83,40 @@ fn of_each_refusal_gives_reason_line_and_carets() {
             .owl(&format!("explain {}", broken.name))
             .ended(1)
             .quietly();
-        assert!(ran.out().contains(broken.reason), "{}: {ran}", broken.name);
-        assert!(ran.out().contains('^'), "{}: {ran}", broken.name);
-        assert!(
-            ran.out().to_lowercase().contains("expected"),
-            "{}: {ran}",
-            broken.name
-        );
+        let lines = ran.lines();
+        assert_eq!(lines[0], format!("{}: {}", broken.name, broken.reason));
+        assert!(ran.out().contains('^'), "{ran}");
+        let [.., why, expected, to_do] = lines[..] else {
+            panic!("{ran}");
+        };
+        assert_eq!(why, broken.detail);
+        assert!(expected.starts_with("expected: "), "{ran}");
+        assert_eq!(to_do, what_to_do(broken.number), "{ran}");
     }
+}
+
+/// The last line of a refusal with this number.
+fn what_to_do(number: u64) -> String {
+    let reason = Reason::of(number).unwrap();
+    let remedy = Refused { reason, place: 1 }.remedy();
+    format!("what to do: {}", remedy.unwrap())
+}
+
+#[test]
+fn of_a_sample_prints_what_the_readme_has() {
+    let scratch = Scratch::new();
+    scratch.put("samples/wrong-row.trc", sample("wrong-row.trc"));
+    let ran = scratch
+        .owl("explain samples/wrong-row.trc")
+        .ended(1)
+        .quietly();
+    let mut printed = String::from("\n\n");
+    for line in ran.lines() {
+        let indent = if line.is_empty() { "" } else { "    " };
+        printed += &format!("{indent}{line}\n");
+    }
+    let readme = include_str!(concat!(env!("CARGO_MANIFEST_DIR"), "/../README.md"));
+    assert!(readme.contains(&(printed + "\n")), "{ran}");
 }
 
 #[test]
@@ -142,6 +169,7 @@ fn of_ascii_marks_the_wrong_part() {
     assert!(ran.out().contains("(refusal 31)"), "{ran}");
     let line = "31.11.2023 10:00:00.3631 CAN #2 | Rx 7a6 4 5b de aa 2c";
     assert_eq!(carets(&ran, line), (0, 10), "{ran}");
+    assert_eq!(*ran.lines().last().unwrap(), what_to_do(31), "{ran}");
 }
 
 #[test]
@@ -153,6 +181,7 @@ fn of_ascii_that_goes_back() {
     assert!(ran.out().contains("(refusal 32)"), "{ran}");
     let (at, count) = carets(&ran, &line.trim_end().replace("12:", "11:"));
     assert!(at + count <= 24, "{ran}");
+    assert_eq!(*ran.lines().last().unwrap(), what_to_do(32), "{ran}");
 }
 
 #[test]

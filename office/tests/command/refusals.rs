@@ -1,7 +1,7 @@
 //! Broken files in the midst of good ones: the good ones are converted, and each broken one is named with number, line
 //! and reason.
 
-use crate::common::traces::{broken, rows, sample, trace, Broken};
+use crate::common::traces::{broken, rows, sample, Broken};
 use crate::common::{Ran, Scratch};
 
 /// A folder with all broken traces, and good ones before, between and behind them.
@@ -23,14 +23,8 @@ fn report_is_right(ran: &Ran, all: &[Broken]) {
     let lines = ran.lines();
     assert_eq!(lines.len(), all.len() + 3, "{ran}");
     for (line, broken) in lines.iter().zip(all) {
-        let begin = format!("week/{}: {}", broken.name, broken.reason);
-        let behind = line
-            .strip_prefix(&begin)
-            .unwrap_or_else(|| panic!("{line}\n{begin}"));
-        match behind {
-            "" => broken.detail_is(None),
-            _ => broken.detail_is(Some(behind.strip_prefix(": ").unwrap())),
-        }
+        let expected = format!("week/{}: {}: {}", broken.name, broken.reason, broken.detail);
+        assert_eq!(*line, expected);
     }
 }
 
@@ -90,79 +84,10 @@ fn are_in_the_objects_as_well() {
         assert_eq!(file.number("refusal"), broken.number as f64);
         assert_eq!(file.number("place"), broken.place as f64);
         assert_eq!(file.text("reason"), broken.reason);
-        let detail = file
-            .find("detail")
-            .filter(|detail| **detail != crate::common::json::Json::Null);
-        broken.detail_is(detail.map(|_| file.text("detail")));
+        assert_eq!(file.text("detail"), broken.detail);
         assert!(!file.has("output"), "{file:?}");
     }
     assert_eq!(summary.number("refused"), all.len() as f64);
-}
-
-#[test]
-fn have_a_detail_for_each_end_of_a_line() {
-    let scratch = Scratch::new();
-    let details: Vec<String> = ["lf.trc", "cr.trc", "end.trc"]
-        .map(|name| {
-            let all = broken();
-            let text = &all.iter().find(|broken| broken.name == name).unwrap().text;
-            scratch.put(name, text);
-            let ran = scratch.owl(&format!("check {name}")).ended(1);
-            let line = ran.line_of(name).to_string();
-            line.split("(refusal 2): ").nth(1).unwrap().to_string()
-        })
-        .to_vec();
-    assert!(details[0] != details[1] && details[1] != details[2] && details[0] != details[2]);
-}
-
-#[test]
-fn of_the_first_lines_tell_a_wrong_value_from_what_stands_before_it() {
-    let scratch = Scratch::new();
-    for (text, detail) in [
-        ("", "the file is empty"),
-        (
-            "\u{FEFF};$FILEVERSION=1.1\r\n",
-            "a byte order mark stands before it",
-        ),
-        ("hello\r\n", "no version was found"),
-        (";$FILEVERSION=1.3\r\n", "version \"1.3\" was found"),
-        (";$FILEVERSION=1.1 1.2\r\n", "version \"1.1 1.2\" was found"),
-        (
-            "x;$FILEVERSION=1.1\r\n",
-            "version \"1.1\" is good, and what stands before it is not",
-        ),
-        (
-            ";$fileversion=1.2 \r\n",
-            "version \"1.2 \" is good, and what stands before it is not",
-        ),
-        (";$FILEVERSION=1.1\r\n", "there is none"),
-        (";$FILEVERSION=1.1\r\nhello\r\n", "no start was found"),
-        (
-            ";$FILEVERSION=1.1\r\n;$STARTTIME=0,5\r\n",
-            "start \"0,5\" was found",
-        ),
-        (
-            ";$FILEVERSION=1.1\r\n$STARTTIME=0.5\r\n",
-            "start \"0.5\" is good, and what stands before it is not",
-        ),
-    ] {
-        scratch.put("a.trc", text);
-        let ran = scratch.owl("check a.trc").ended(1).quietly();
-        let line = ran.line_of("a.trc");
-        assert!(line.ends_with(&format!("): {detail}")), "{text}: {line}");
-    }
-}
-
-#[test]
-fn for_a_line_that_is_too_long_count_its_bytes() {
-    let scratch = Scratch::new();
-    let line = format!(";{}\r\n", "x".repeat(250));
-    scratch.put("a.trc", trace(&line));
-    let ran = scratch.owl("check a.trc").ended(1).quietly();
-    assert_eq!(
-        ran.line_of("a.trc"),
-        "a.trc: line 3 has more than 250 bytes (refusal 3): it has 251 bytes"
-    );
 }
 
 #[test]

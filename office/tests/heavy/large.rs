@@ -93,7 +93,28 @@ fn are_limits() {
     );
     assert_eq!(scratch.names(""), ["a.trc", "b.trc"]);
     let ran = scratch.owl("explain a.trc").ended(1).quietly();
-    assert!(ran.out().contains("(refusal 1)"), "{ran}");
+    assert_eq!(
+        ran.lines(),
+        [
+            "a.trc: the text has more than 134,217,728 bytes (refusal 1)",
+            "what to do: cut it: each part of a trace with the two first lines, its rows with the numbers that they have",
+        ]
+    );
+}
+
+#[test]
+fn of_lines_that_come_back_are_limits() {
+    let scratch = Scratch::new();
+    let line = "29.02.2000 12:00:00.0000 CAN #1 | Rx 123 0\n";
+    scratch.put("a.asc", line.repeat(MOST_ROWS + 1));
+    let ran = scratch.owl("explain --ascii a.asc").ended(1).quietly();
+    assert_eq!(
+        ran.lines(),
+        [
+            "a.asc: there are more than 999,999 lines (refusal 34)",
+            "what to do: cut it: each part with at most 999,999 lines",
+        ]
+    );
 }
 
 #[test]
