@@ -17,9 +17,9 @@ pub const COMMAND: Command = Command {
     does: "where a trace is refused, and what is wrong there",
     about: "\
 Shows the line at which a trace is refused, with its number and a mark under
-what is wrong, the reason in words, and what was expected. Bytes that can't be
-seen are shown as their numbers (a tab is \\x09). With --ascii the file is read
-as lines of Telemotive ASCII.
+what is wrong, the reason in words, what was expected, and what to do about it.
+Bytes that can't be seen are shown as their numbers (a tab is \\x09). With
+--ascii the file is read as lines of Telemotive ASCII.
 
 It needs at most 154 MB of memory: 134,217,729 bytes for a text and 19,999,980
 for its records; less if the file is smaller.",
