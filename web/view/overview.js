@@ -1,0 +1,77 @@
+import { element, setText } from './dom.js';
+import { counted } from './numbers.js';
+
+// All files at a glance: a line that counts them, a link to each where there are several, and the title of the window.
+
+const TOLD_AFTER = 40;
+const IN_WORDS = ['waiting', 'reading', 'accepted', 'refused', 'failed', 'stopped'];
+
+export function countsInWords(states) {
+  const parts = [];
+  for (const state of IN_WORDS) {
+    const count = states.filter((one) => one === state).length;
+    if (count > 0) parts.push(`${count} ${state}`);
+  }
+  return `${counted(states.length, 'file', 'files')}: ${parts.join(', ')}`;
+}
+
+// The window's title has what must be seen from another window: what is refused, and what is still at work.
+export function titleOf(states) {
+  if (states.length === 0) return 'Bushingowl';
+  const of = (state) => states.filter((one) => one === state).length;
+  const parts = [];
+  const atWork = of('waiting') + of('reading');
+  if (atWork > 0) parts.push(`${atWork} at work`);
+  for (const state of ['refused', 'failed', 'stopped']) if (of(state) > 0) parts.push(`${of(state)} ${state}`);
+  if (parts.length === 0) parts.push(states.length === 1 ? 'accepted' : 'all accepted');
+  return `${counted(states.length, 'file', 'files')}: ${parts.join(', ')} - Bushingowl`;
+}
+
+export class Overview {
+  constructor(places) {
+    this.places = places;
+    this.links = new Map();
+    this.sections = [];
+    this.due = null;
+  }
+
+  // Called at every change, and hundreds may come at once: shown a moment later, together.
+  tell(sections) {
+    this.sections = [...sections];
+    if (this.due === null) this.due = setTimeout(() => this.show(), TOLD_AFTER);
+  }
+
+  show() {
+    this.due = null;
+    const states = this.sections.map((section) => section.state);
+    document.title = titleOf(states);
+    setText(this.places.summary, states.length > 0 ? countsInWords(states) : '');
+    this.places.nav.hidden = states.length < 2;
+    for (const [section, link] of this.links) if (!this.sections.includes(section)) this.drop(section, link);
+    for (const section of this.sections) this.showLink(section);
+  }
+
+  drop(section, link) {
+    link.item.remove();
+    this.links.delete(section);
+  }
+
+  showLink(section) {
+    if (!this.links.has(section)) this.links.set(section, this.linkTo(section));
+    const link = this.links.get(section);
+    link.item.dataset.state = section.state;
+    setText(link.state, section.inWords());
+  }
+
+  linkTo(section) {
+    const state = element('span', { class: 'state' });
+    const anchor = element('a', { href: `#${section.element.id}`, text: section.file.name });
+    anchor.addEventListener('click', (event) => {
+      event.preventDefault();
+      section.visit();
+    });
+    const item = element('li', { test: 'link' }, anchor, ' ', state);
+    this.places.links.append(item);
+    return { item, state };
+  }
+}

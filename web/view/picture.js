@@ -1,0 +1,198 @@
+import { onLook } from './look.js';
+import { pictureParts, showNames, FIRST_STRIPS } from './picture_parts.js';
+import { TimeWindow, offsetOf } from './picture_window.js';
+import { showAxis } from './picture_axis.js';
+import { drawStrips } from './picture_strips.js';
+import { drawMarks, markNear, nextMark } from './picture_marks.js';
+import { Cursor, nearestColumn, nextColumn } from './cursor.js';
+import { spanInWords, inMs } from './numbers.js';
+
+// The picture of a trace: time across, a strip for each ID.
+
+const COLUMN = 2;
+const PAPER_WIDTH = 520;
+const REACH = 4;
+
+export class Picture {
+  constructor(held, facts, show) {
+    this.held = held;
+    this.facts = facts;
+    this.show = show;
+    this.window = new TimeWindow(facts.earliest.offset, facts.latest.offset);
+    this.strips = Math.min(FIRST_STRIPS, facts.ids.length);
+    this.picture = null;
+    this.asked = 0;
+    this.parts = pictureParts(facts, {
+      zoom: (factor) => this.zoom(factor),
+      whole: () => this.whole(),
+      pan: (part) => this.pan(part),
+      mark: () => this.toMark(),
+      more: (strips) => this.more(strips),
+    });
+    this.element = this.parts.element;
+    this.cursor = new Cursor(held, this.parts.plot, this.parts.cursor, this.parts.told);
+    this.listen(this.parts.plot);
+  }
+
+  listen(plot) {
+    plot.addEventListener('keydown', (event) => this.key(event));
+    plot.addEventListener('pointermove', (event) => this.point(event));
+    plot.addEventListener('pointerdown', (event) => this.point(event));
+    plot.addEventListener('click', (event) => this.click(event));
+  }
+
+  shown() {
+    showNames(this.parts, this.facts, this.strips);
+    this.watch = new ResizeObserver(() => this.resized());
+    this.watch.observe(this.parts.plot);
+    this.unlook = onLook(() => this.draw());
+    this.ask();
+  }
+
+  end() {
+    this.asked = -1;
+    this.watch.disconnect();
+    this.unlook();
+  }
+
+  columns() {
+    return Math.max(50, Math.floor(this.parts.plot.clientWidth / COLUMN));
+  }
+
+  resized() {
+    this.draw();
+    if (this.picture === null || this.columns() === this.picture.columns) return;
+    clearTimeout(this.later);
+    this.later = setTimeout(() => this.ask(), 150);
+  }
+
+  ask() {
+    if (this.asked < 0) return;
+    this.asked += 1;
+    const number = this.asked;
+    const { from, to } = this.window;
+    const strips = this.strips;
+    this.held.picture({ from, to, columns: this.columns(), strips }).then((picture) => {
+      if (number === this.asked) this.arrived(picture, strips);
+    });
+  }
+
+  arrived(picture, strips) {
+    this.picture = picture;
+    this.drawn = strips;
+    this.draw();
+    this.cursor.placeIn(picture);
+    const { from, to } = this.window;
+    this.parts.shows.textContent = this.window.isWhole()
+      ? `the whole trace, ${spanInWords(to - from)}`
+      : `${inMs(from)} ms to ${inMs(to)} ms, ${spanInWords(to - from)}`;
+  }
+
+  draw() {
+    if (this.picture === null) return;
+    const paper = document.documentElement.classList.contains('paper');
+    const width = paper ? PAPER_WIDTH : this.parts.plot.clientWidth;
+    const ratio = paper ? 3 : 4;
+    drawMarks(this.parts.marks, this.picture, width, ratio);
+    drawStrips(this.parts.strips, this.picture, this.drawn, width, ratio);
+    showAxis(this.parts.axis, this.window, width);
+  }
+
+  more(strips) {
+    this.strips = strips;
+    showNames(this.parts, this.facts, strips);
+    this.ask();
+  }
+
+  zoom(factor) {
+    if (this.picture === null) return;
+    const { row, column } = this.cursor;
+    const here = row !== null && this.window.holds(row.offset) ? row.offset : offsetOf(this.picture, Math.max(column, 0));
+    this.window.zoom(factor, here);
+    this.ask();
+  }
+
+  whole() {
+    this.window.whole();
+    this.ask();
+  }
+
+  pan(part) {
+    this.window.pan(part);
+    this.ask();
+  }
+
+  // The cursor goes to this row; the window follows if it must.
+  stand(row) {
+    if (!this.window.holds(row.offset)) {
+      this.window.centre(row.offset);
+      this.ask();
+    }
+    if (this.picture !== null) this.cursor.toRow(this.picture, row);
+  }
+
+  toIndex(index) {
+    if (index < 0 || index >= this.facts.rows) return;
+    this.held.rows(index, 1).then(([row]) => this.stand(row));
+  }
+
+  toMark() {
+    if (this.picture === null) return;
+    const index = nextMark(this.picture, this.cursor.column);
+    if (index >= 0) this.toIndex(index);
+    else this.parts.told.textContent = 'No row steps back here, and there is no error frame.';
+  }
+
+  // To the next column that has rows; at the edge of a part of the trace to the next row, whatever its time is.
+  step(by) {
+    const column = this.parts.cursor.hidden ? -1 : nextColumn(this.picture.first, this.cursor.column, by);
+    if (column >= 0) this.cursor.toColumn(this.picture, column);
+    else if (!this.window.isWhole()) this.toIndex(this.cursor.index + by);
+  }
+
+  edge(column) {
+    this.cursor.toColumn(this.picture, nearestColumn(this.picture.first, column));
+  }
+
+  key(event) {
+    if (this.picture === null || event.ctrlKey || event.altKey || event.metaKey) return;
+    const does = {
+      ArrowLeft: () => this.step(-1),
+      ArrowRight: () => this.step(1),
+      Home: () => this.edge(0),
+      End: () => this.edge(this.picture.columns - 1),
+      PageUp: () => this.pan(-0.5),
+      PageDown: () => this.pan(0.5),
+      '+': () => this.zoom(0.5),
+      '=': () => this.zoom(0.5),
+      '-': () => this.zoom(2),
+      0: () => this.whole(),
+      m: () => this.toMark(),
+      Enter: () => this.show(this.cursor.index),
+    }[event.key];
+    if (does === undefined) return;
+    event.preventDefault();
+    does();
+  }
+
+  columnAt(event) {
+    const box = this.parts.plot.getBoundingClientRect();
+    const column = Math.floor(((event.clientX - box.left) * this.picture.columns) / box.width);
+    return Math.min(Math.max(column, 0), this.picture.columns - 1);
+  }
+
+  point(event) {
+    if (this.picture === null) return;
+    this.cursor.toColumn(this.picture, nearestColumn(this.picture.first, this.columnAt(event)));
+  }
+
+  click(event) {
+    if (this.picture === null) return;
+    const box = this.parts.marks.getBoundingClientRect();
+    const column = this.columnAt(event);
+    let index = -1;
+    if (event.clientY < box.top + box.height / 2) index = markNear(this.picture.stepBack, column, REACH);
+    else if (event.clientY < box.bottom) index = markNear(this.picture.error, column, REACH);
+    this.show(index >= 0 ? index : this.cursor.index);
+  }
+}

@@ -1,0 +1,64 @@
+// The time that the picture shows: offsets in microseconds, both ends inside.
+
+const LEAST_SPAN = 500;
+
+export class TimeWindow {
+  constructor(earliest, latest) {
+    this.earliest = earliest;
+    this.latest = latest;
+    this.whole();
+  }
+
+  whole() {
+    this.from = this.earliest;
+    this.to = this.latest;
+  }
+
+  isWhole() {
+    return this.from === this.earliest && this.to === this.latest;
+  }
+
+  span() {
+    return this.to - this.from + 1;
+  }
+
+  holds(offset) {
+    return offset >= this.from && offset <= this.to;
+  }
+
+  // A span that begins there, moved and cut so that it lies within the trace.
+  set(from, span) {
+    const all = this.latest - this.earliest + 1;
+    const most = Math.min(Math.max(Math.round(span), Math.min(LEAST_SPAN, all)), all);
+    this.from = Math.min(Math.max(Math.round(from), this.earliest), this.latest - most + 1);
+    this.to = this.from + most - 1;
+  }
+
+  // What stands at this offset stays where it is.
+  zoom(factor, offset) {
+    const part = (offset - this.from) / this.span();
+    const span = Math.max(this.span() * factor, LEAST_SPAN);
+    this.set(offset - part * span, span);
+  }
+
+  pan(part) {
+    this.set(this.from + part * this.span(), this.span());
+  }
+
+  centre(offset) {
+    this.set(offset - this.span() / 2, this.span());
+  }
+}
+
+// The column of a picture in which this offset lies.
+export function columnOf(picture, offset) {
+  const span = picture.to - picture.from + 1;
+  const column = Math.ceil(((offset - picture.from + 1) * picture.columns) / span) - 1;
+  return Math.min(Math.max(column, 0), picture.columns - 1);
+}
+
+// The offset in the middle of a column.
+export function offsetOf(picture, column) {
+  const span = picture.to - picture.from + 1;
+  return Math.floor(picture.from + ((column + 0.5) * span) / picture.columns);
+}
