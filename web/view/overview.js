@@ -10,7 +10,7 @@ export function countsInWords(states) {
   const parts = [];
   for (const state of IN_WORDS) {
     const count = states.filter((one) => one === state).length;
-    if (count > 0) parts.push(`${count} ${state}`);
+    if (count > 0) parts.push(states.length === 1 ? state : `${count} ${state}`);
   }
   return `${counted(states.length, 'file', 'files')}: ${parts.join(', ')}`;
 }
@@ -22,7 +22,7 @@ export function titleOf(states) {
   const parts = [];
   const atWork = of('waiting') + of('reading');
   if (atWork > 0) parts.push(`${atWork} at work`);
-  for (const state of ['refused', 'failed', 'stopped']) if (of(state) > 0) parts.push(`${of(state)} ${state}`);
+  for (const state of ['refused', 'failed', 'stopped']) if (of(state) > 0) parts.push(states.length === 1 ? state : `${of(state)} ${state}`);
   if (parts.length === 0) parts.push(states.length === 1 ? 'accepted' : 'all accepted');
   return `${counted(states.length, 'file', 'files')}: ${parts.join(', ')} - Bushingowl`;
 }

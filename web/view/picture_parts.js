@@ -89,13 +89,22 @@ function nameOfStrip({ name, count }) {
   return element('li', {}, id, ' ', element('span', { class: 'count', text: grouped(count) }));
 }
 
+function moreButtons(facts, strips, more) {
+  const left = facts.ids.length - strips;
+  const next = Math.min(left, FIRST_STRIPS);
+  const buttons = [];
+  if (left > 0) buttons.push(button(`${next} more`, () => more(strips + next), { test: 'more-strips' }));
+  if (left > next) buttons.push(button('All', () => more(facts.ids.length), { test: 'all-strips' }));
+  if (strips > FIRST_STRIPS) buttons.push(button('Fewer', () => more(FIRST_STRIPS), { test: 'fewer-strips' }));
+  return buttons;
+}
+
 export function showNames(parts, facts, strips) {
+  const focused = parts.more.contains(document.activeElement);
   parts.names.replaceChildren(...facts.ids.slice(0, strips).map(nameOfStrip));
   parts.element.style.setProperty('--strips', String(strips));
-  const left = facts.ids.length - strips;
-  const said = element('span', { text: `${grouped(strips)} of ${counted(facts.idCount, 'strip', 'strips')}` });
-  parts.more.replaceChildren(said);
-  if (left > 0) parts.more.append(button(`${Math.min(left, FIRST_STRIPS)} more`, () => parts.on.more(strips + Math.min(left, FIRST_STRIPS)), { test: 'more-strips' }));
-  if (left > FIRST_STRIPS) parts.more.append(button('all', () => parts.on.more(facts.ids.length), { test: 'all-strips' }));
-  if (strips > FIRST_STRIPS) parts.more.append(button('fewer', () => parts.on.more(FIRST_STRIPS), { test: 'fewer-strips' }));
+  const said = `${grouped(strips)} of ${counted(facts.idCount, 'strip', 'strips')}, the most frequent first`;
+  const buttons = moreButtons(facts, strips, parts.on.more);
+  parts.more.replaceChildren(element('span', { text: said }), ...buttons);
+  if (focused && buttons.length > 0) buttons[0].focus({ preventScroll: true });
 }

@@ -41,8 +41,7 @@ function aroundOf(refusal) {
   if (refusal.around.length === 0) return null;
   return element(
     'table',
-    { class: 'around', test: 'around' },
-    element('caption', { class: 'unseen', text: `The lines around line ${refusal.place}` }),
+    { class: 'around', test: 'around', 'aria-label': `Line ${refusal.place} and those around it` },
     element('tbody', {}, ...refusal.around.map((one) => lineOf(one, refusal.place))),
   );
 }
