@@ -1,4 +1,5 @@
 import { element } from './dom.js';
+import { Asked } from './asked.js';
 import { factsOf, kindsOf } from './facts.js';
 import { Downloads } from './downloads.js';
 import { Picture } from './picture.js';
@@ -8,23 +9,26 @@ import { Search } from './search.js';
 // What is shown of an accepted file.
 
 export class AcceptedBody {
-  constructor(held, facts) {
-    this.list = facts.rows > 0 ? new RowList(held, facts, (row) => this.selected(row)) : null;
-    this.picture = facts.rows > 0 ? new Picture(held, facts, (index) => this.wanted(index)) : null;
-    this.search = facts.rows > 0 ? new Search(held, facts, this.list) : null;
-    this.downloads = new Downloads(held, facts);
+  constructor(held, facts, failed) {
+    this.asked = new Asked(held, failed);
+    this.list = null;
+    this.picture = null;
     this.element = element(
       'div',
       { class: 'accepted' },
       factsOf(facts, (index) => this.wanted(index)),
       kindsOf(facts),
-      this.downloads.element,
-      ...(facts.rows > 0 ? [this.picture.element, this.rowsPart(facts)] : [element('p', { text: 'There are no rows.' })]),
+      new Downloads(this.asked, facts).element,
+      ...(facts.rows > 0 ? this.rowsParts(facts) : []),
     );
   }
 
-  rowsPart() {
-    return element('section', { class: 'rows' }, element('h3', { text: 'Rows' }), this.search.element, this.list.element);
+  rowsParts(facts) {
+    this.list = new RowList(this.asked, facts, (row) => this.selected(row));
+    this.picture = new Picture(this.asked, facts, (index) => this.wanted(index));
+    const search = new Search(this.asked, facts, this.list);
+    const head = element('h3', { text: 'Rows' });
+    return [this.picture.element, element('section', { class: 'rows' }, head, search.element, this.list.element)];
   }
 
   shown() {
@@ -33,6 +37,7 @@ export class AcceptedBody {
   }
 
   end() {
+    this.asked.end();
     if (this.picture) this.picture.end();
     if (this.list) this.list.end();
   }

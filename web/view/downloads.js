@@ -91,8 +91,7 @@ export class Downloads {
     this.progress(title, 0, 0);
     this.held
       .make(what, this.options(), (done, of) => this.progress(title, done, of))
-      .then((made) => this.finished(title, made))
-      .catch((error) => this.finished(title, { refused: error.message, why: null }));
+      .then((made) => this.finished(title, made));
   }
 
   finished(title, made) {

@@ -29,12 +29,13 @@ export function colour(name) {
   return getComputedStyle(document.documentElement).getPropertyValue(name).trim();
 }
 
-// Sets the canvas to its size in pixels of the device, and gives what to draw with in pixels of the page.
+// Sets the canvas to its size in pixels of the device, and gives what to draw with in pixels of the page, and how many
+// of the first make one of the second.
 export function cleared(canvas, width, height, mostRatio) {
   const ratio = Math.min(window.devicePixelRatio || 1, mostRatio);
   canvas.width = Math.max(1, Math.round(width * ratio));
   canvas.height = Math.max(1, Math.round(height * ratio));
   const pen = canvas.getContext('2d');
   pen.setTransform(ratio, 0, 0, ratio, 0, 0);
-  return pen;
+  return { pen, ratio };
 }

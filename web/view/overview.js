@@ -59,7 +59,7 @@ export class Overview {
   showLink(section) {
     if (!this.links.has(section)) this.links.set(section, this.linkTo(section));
     const link = this.links.get(section);
-    link.item.dataset.state = section.state;
+    link.item.className = `is-${section.state}`;
     setText(link.state, section.inWords());
   }
 

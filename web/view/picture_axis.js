@@ -75,7 +75,7 @@ export function showAxis(place, window, width) {
     const tick = element('span', { class: 'tick', text: label });
     const part = (at - window.from) / window.span();
     tick.style.left = `${100 * part}%`;
-    if (part * width > width - label.length * ROOM) tick.classList.add('last');
+    if (part * width > width - label.length * ROOM) tick.textContent = '';
     return tick;
   });
   place.replaceChildren(...ticks);

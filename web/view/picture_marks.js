@@ -40,7 +40,7 @@ function drawLane(pen, marks, shape, width, top, height) {
 
 export function drawMarks(canvas, picture, width, ratio) {
   const height = canvas.clientHeight / 2;
-  const pen = cleared(canvas, width, 2 * height, ratio);
+  const { pen } = cleared(canvas, width, 2 * height, ratio);
   pen.fillStyle = pen.strokeStyle = colour('--back-ink');
   drawLane(pen, picture.stepBack, triangle, width, 0, height);
   pen.fillStyle = pen.strokeStyle = colour('--error-ink');

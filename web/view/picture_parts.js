@@ -8,7 +8,7 @@ export const FIRST_STRIPS = 24;
 const HELP =
   'Move the cursor with the mouse, a finger, or the keys left, right, Home and End. Enter or click shows the row in the ' +
   'list. The keys + and - zoom, 0 goes back to the whole, Page up and Page down move the part that is shown, m goes to ' +
-  'the next mark.';
+  'the next mark. The height of a strip is how many rows there are, measured by the most that this strip has.';
 
 function controls(on, shows) {
   return element(

@@ -34,11 +34,10 @@ export class TimeWindow {
     this.to = this.from + most - 1;
   }
 
-  // What stands at this offset stays where it is.
+  // This offset comes to stand in the middle.
   zoom(factor, offset) {
-    const part = (offset - this.from) / this.span();
     const span = Math.max(this.span() * factor, LEAST_SPAN);
-    this.set(offset - part * span, span);
+    this.set(offset - span / 2, span);
   }
 
   pan(part) {

@@ -100,17 +100,17 @@ export class FileSection {
     this.end();
     this.wanted = false;
     this.become('stopped', '');
-    this.head.focus();
     this.desk.turn();
   }
 
   again(form) {
+    const focused = this.element.contains(document.activeElement);
     this.end();
     this.shut();
     this.form = form;
     this.wanted = true;
     this.become('waiting', '');
-    this.head.focus();
+    if (focused) this.head.focus();
     this.desk.turn();
   }
 
@@ -133,7 +133,7 @@ export class FileSection {
   open() {
     if (this.isOpen()) return;
     if (this.state === 'refused') this.body = new RefusedBody(this.refusal, (form) => this.again(form));
-    else if (this.isHeld()) this.body = new AcceptedBody(this.held, this.facts);
+    else if (this.isHeld()) this.body = new AcceptedBody(this.held, this.facts, (words) => this.failed(words));
     else if (this.state === 'accepted') this.again(this.form);
     if (this.body === null) return;
     this.place.append(this.body.element);

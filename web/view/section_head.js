@@ -33,6 +33,7 @@ export class SectionHead {
   }
 
   show(state, words) {
+    const focused = document.activeElement;
     this.state.textContent = state;
     this.words.textContent = words;
     const atWork = state === 'reading' || state === 'waiting';
@@ -40,6 +41,7 @@ export class SectionHead {
     this.stop.hidden = !atWork;
     this.again.hidden = state !== 'stopped' && state !== 'failed';
     this.opener.disabled = state !== 'accepted' && state !== 'refused';
+    if (this.element.contains(focused) && (focused.hidden || focused.disabled)) this.focus();
   }
 
   progress(doing, done, of) {
@@ -57,7 +59,7 @@ export class SectionHead {
 
   // Where the keyboard stays when the button that was pressed goes away.
   focus() {
-    const next = [this.stop, this.again, this.close].find((one) => !one.hidden);
+    const next = [this.opener, this.stop, this.again, this.close].find((one) => !one.hidden && !one.disabled);
     next.focus({ preventScroll: true });
   }
 }
