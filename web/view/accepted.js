@@ -50,6 +50,6 @@ export class AcceptedBody {
 
   // From the list: the picture's cursor goes there too.
   selected(row) {
-    this.picture.stand(row);
+    this.picture.stand(row, document.activeElement !== this.list.element);
   }
 }

@@ -1,5 +1,4 @@
 import { element, button, newName } from './dom.js';
-import { percent } from './numbers.js';
 import { outputName, outputTitle } from './outputs.js';
 
 // The files that can be kept of an accepted one.
@@ -73,10 +72,9 @@ export class Downloads {
     this.isBusy = is;
   }
 
-  progress(title, done, of) {
+  progress(done, of) {
     this.bar.max = Math.max(of, 1);
     this.bar.value = Math.min(done, of);
-    this.tell(`making the ${title} ${percent(done, of)}`.trim(), false);
   }
 
   tell(words, refused) {
@@ -88,9 +86,10 @@ export class Downloads {
     if (this.isBusy) return;
     const title = outputTitle(this.facts, what);
     this.busy(true);
-    this.progress(title, 0, 0);
+    this.progress(0, 0);
+    this.tell(`making the ${title}`, false);
     this.held
-      .make(what, this.options(), (done, of) => this.progress(title, done, of))
+      .make(what, this.options(), (done, of) => this.progress(done, of))
       .then((made) => this.finished(title, made));
   }
 

@@ -1,8 +1,8 @@
 import { element } from './dom.js';
 import { Scroll } from './scroll.js';
 import { RowCache } from './row_cache.js';
-import { headOfList, rowElement, fillRow } from './row_cells.js';
-import { onCopy } from './copy.js';
+import { headOfList, rowElement, fillRow, setWidths } from './row_cells.js';
+import { listenToList } from './list_hands.js';
 
 // The list of all rows. Only those that can be seen are there, and some above and below.
 
@@ -26,21 +26,14 @@ export class RowList {
       this.inner,
     );
     this.element.setAttribute('aria-rowcount', String(facts.rows + 1));
-    this.listen(this.element);
-  }
-
-  listen(list) {
-    list.addEventListener('scroll', () => this.scrolled());
-    list.addEventListener('wheel', (event) => this.wheel(event), { passive: false });
-    list.addEventListener('keydown', (event) => this.key(event));
-    list.addEventListener('click', (event) => this.click(event));
-    list.addEventListener('copy', (event) => onCopy(event, list, this.shownRows.get(this.index)));
+    setWidths(this.element, facts);
+    this.element.addEventListener('scroll', () => this.scrolled());
+    listenToList(this);
   }
 
   shown() {
     const size = parseFloat(getComputedStyle(document.documentElement).fontSize);
     this.rowHeight = Math.round(size * ROW_EMS);
-    this.wheeled = 0;
     this.visible = Math.min(this.rows, VISIBLE);
     this.element.style.setProperty('--row', `${this.rowHeight}px`);
     this.element.style.setProperty('--visible', String(this.visible));
@@ -142,40 +135,5 @@ export class RowList {
   visit() {
     this.element.scrollIntoView({ block: 'nearest' });
     this.element.focus({ preventScroll: true });
-  }
-
-  key(event) {
-    if (event.ctrlKey || event.altKey || event.metaKey) return;
-    const here = this.index < 0 ? Math.ceil(this.scroll.top / this.rowHeight) : this.index;
-    const to = {
-      ArrowDown: this.index < 0 ? here : here + 1,
-      ArrowUp: here - 1,
-      PageDown: here + this.whole(),
-      PageUp: here - this.whole(),
-      Home: 0,
-      End: this.rows - 1,
-    }[event.key];
-    if (to === undefined) return;
-    event.preventDefault();
-    this.select(to);
-  }
-
-  // By whole rows, however long the list is. At its ends the page is scrolled.
-  wheel(event) {
-    if (event.ctrlKey || event.deltaY === 0 || Math.abs(event.deltaX) > Math.abs(event.deltaY)) return;
-    const unit = [1, this.rowHeight, this.scroll.view][event.deltaMode];
-    const { top, height, view } = this.scroll;
-    if (event.deltaY < 0 ? top <= 0 : top >= height - view) return;
-    event.preventDefault();
-    this.wheeled += (event.deltaY * unit) / this.rowHeight;
-    const rows = Math.trunc(this.wheeled);
-    this.wheeled -= rows;
-    if (rows !== 0) this.go((Math.round(top / this.rowHeight) + rows) * this.rowHeight);
-  }
-
-  click(event) {
-    const made = event.target.closest('.row');
-    if (made === null || !getSelection().isCollapsed) return;
-    this.select(Number(made.dataset.index));
   }
 }

@@ -27,11 +27,16 @@ export function titleOf(states) {
   return `${counted(states.length, 'file', 'files')}: ${parts.join(', ')} - Bushingowl`;
 }
 
+function isBad(state) {
+  return state === 'refused' || state === 'failed';
+}
+
 export class Overview {
   constructor(places) {
     this.places = places;
     this.links = new Map();
     this.sections = [];
+    this.made = 0;
     this.due = null;
   }
 
@@ -59,8 +64,18 @@ export class Overview {
   showLink(section) {
     if (!this.links.has(section)) this.links.set(section, this.linkTo(section));
     const link = this.links.get(section);
-    link.item.className = `is-${section.state}`;
+    const moves = isBad(section.state) !== link.item.classList.contains('is-bad');
+    link.item.className = `is-${section.state}${isBad(section.state) ? ' is-bad' : ''}`;
+    if (moves) this.place(link.item, isBad(section.state));
     setText(link.state, section.inWords());
+  }
+
+  // What can't be used stands first, so that among hundreds it is seen; both kinds in the order in which they came.
+  place(item, bad) {
+    const { links } = this.places;
+    const group = [...links.children].filter((one) => one !== item && one.classList.contains('is-bad') === bad);
+    const behind = group.find((one) => Number(one.dataset.number) > Number(item.dataset.number));
+    links.insertBefore(item, behind || (bad ? links.querySelector('li:not(.is-bad)') : null));
   }
 
   linkTo(section) {
@@ -71,6 +86,8 @@ export class Overview {
       section.visit();
     });
     const item = element('li', { test: 'link' }, anchor, ' ', state);
+    this.made += 1;
+    item.dataset.number = String(this.made);
     this.places.links.append(item);
     return { item, state };
   }

@@ -3,7 +3,8 @@ import { pictureParts, showNames, FIRST_STRIPS } from './picture_parts.js';
 import { TimeWindow, offsetOf } from './picture_window.js';
 import { showAxis } from './picture_axis.js';
 import { drawStrips } from './picture_strips.js';
-import { drawMarks, markNear, nextMark } from './picture_marks.js';
+import { drawMarks, nextMark } from './picture_marks.js';
+import { listenToPlot } from './picture_hands.js';
 import { Cursor, nearestColumn, nextColumn } from './cursor.js';
 import { spanInWords, inMs } from './numbers.js';
 
@@ -11,7 +12,6 @@ import { spanInWords, inMs } from './numbers.js';
 
 const COLUMN = 2;
 const PAPER_WIDTH = 520;
-const REACH = 4;
 
 export class Picture {
   constructor(held, facts, show) {
@@ -31,14 +31,7 @@ export class Picture {
     });
     this.element = this.parts.element;
     this.cursor = new Cursor(held, this.parts.plot, this.parts.cursor, this.parts.told);
-    this.listen(this.parts.plot);
-  }
-
-  listen(plot) {
-    plot.addEventListener('keydown', (event) => this.key(event));
-    plot.addEventListener('pointermove', (event) => this.point(event));
-    plot.addEventListener('pointerdown', (event) => this.point(event));
-    plot.addEventListener('click', (event) => this.click(event));
+    listenToPlot(this);
   }
 
   shown() {
@@ -122,8 +115,9 @@ export class Picture {
     this.ask();
   }
 
-  // The cursor goes to this row; the window follows if it must.
-  stand(row) {
+  // The cursor goes to this row; the window follows if it must. Where the list says the row itself, it is not said twice.
+  stand(row, aloud = true) {
+    this.parts.told.setAttribute('aria-live', aloud ? 'polite' : 'off');
     if (!this.window.holds(row.offset)) {
       this.window.centre(row.offset);
       this.ask();
@@ -152,47 +146,5 @@ export class Picture {
 
   edge(column) {
     this.cursor.toColumn(this.picture, nearestColumn(this.picture.first, column));
-  }
-
-  key(event) {
-    if (this.picture === null || event.ctrlKey || event.altKey || event.metaKey) return;
-    const does = {
-      ArrowLeft: () => this.step(-1),
-      ArrowRight: () => this.step(1),
-      Home: () => this.edge(0),
-      End: () => this.edge(this.picture.columns - 1),
-      PageUp: () => this.pan(-0.5),
-      PageDown: () => this.pan(0.5),
-      '+': () => this.zoom(0.5),
-      '=': () => this.zoom(0.5),
-      '-': () => this.zoom(2),
-      0: () => this.whole(),
-      m: () => this.toMark(),
-      Enter: () => this.show(this.cursor.index),
-    }[event.key];
-    if (does === undefined) return;
-    event.preventDefault();
-    does();
-  }
-
-  columnAt(event) {
-    const box = this.parts.plot.getBoundingClientRect();
-    const column = Math.floor(((event.clientX - box.left) * this.picture.columns) / box.width);
-    return Math.min(Math.max(column, 0), this.picture.columns - 1);
-  }
-
-  point(event) {
-    if (this.picture === null) return;
-    this.cursor.toColumn(this.picture, nearestColumn(this.picture.first, this.columnAt(event)));
-  }
-
-  click(event) {
-    if (this.picture === null) return;
-    const box = this.parts.marks.getBoundingClientRect();
-    const column = this.columnAt(event);
-    let index = -1;
-    if (event.clientY < box.top + box.height / 2) index = markNear(this.picture.stepBack, column, REACH);
-    else if (event.clientY < box.bottom) index = markNear(this.picture.error, column, REACH);
-    this.show(index >= 0 ? index : this.cursor.index);
   }
 }

@@ -16,6 +16,14 @@ const CELLS = [
   { name: 'Step back', class: 'back', of: (row) => (row.stepBack ? 'steps back' : '') },
 ];
 
+// Lines and offsets have as much room as the longest of this file.
+export function setWidths(list, facts) {
+  const line = Math.max(4, String(facts.lines).length);
+  const offset = Math.max(10, inMs(facts.latest.offset).length);
+  list.style.setProperty('--line-digits', `${line}ch`);
+  list.style.setProperty('--offset-digits', `${offset}ch`);
+}
+
 export function headOfList() {
   const cells = CELLS.map((cell) => element('span', { role: 'columnheader', class: cell.class, text: cell.name }));
   return element('div', { class: 'list-head', role: 'row', 'aria-rowindex': '1' }, ...cells);

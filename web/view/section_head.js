@@ -46,10 +46,8 @@ export class SectionHead {
 
   progress(doing, done, of) {
     setText(this.far, `${DOING[doing]} ${percent(done, of)}`.trim());
-    if (of > 0) {
-      this.bar.max = of;
-      this.bar.value = Math.min(done, of);
-    } else this.bar.removeAttribute('value');
+    this.bar.max = Math.max(of, 1);
+    this.bar.value = Math.min(done, of);
   }
 
   opened(is) {
