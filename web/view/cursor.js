@@ -23,7 +23,8 @@ export function rowInWords(row) {
   const id = row.id === '' ? '' : ` ${row.id}`;
   const data = row.data === '' ? '' : `: ${row.data}`;
   const back = row.stepBack ? ', steps back' : '';
-  return `Row ${row.number}, line ${row.line}, at ${inMs(row.offset)} ms, ${row.stamp}${bus}, ${row.kind}${id}, length ${row.length}${data}${back}`;
+  const where = `Row ${row.number}, line ${row.line}, at ${inMs(row.offset)} ms, ${row.stamp}`;
+  return `${where}${bus}, ${row.kind}${id}, length ${row.length}${data}${back}`;
 }
 
 export class Cursor {
@@ -57,7 +58,7 @@ export class Cursor {
   // Another picture has come: the row stays, and stands elsewhere.
   placeIn(picture) {
     const inside = this.row !== null && this.row.offset >= picture.from && this.row.offset <= picture.to;
-    if (inside) this.at(picture, columnOf(picture, this.row.offset));
+    if (inside) this.at(picture, nearestColumn(picture.first, columnOf(picture, this.row.offset)));
     else if (this.row === null) this.toColumn(picture, nearestColumn(picture.first, Math.max(this.column, 0)));
     else this.line.hidden = true;
   }

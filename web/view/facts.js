@@ -33,6 +33,12 @@ function coveredIn(facts) {
   return fact('Time covered', spanInWords(facts.covered), 'fact-covered', element('small', { text: stamps }));
 }
 
+// Warnings and error frames have strips of their own, which are no IDs.
+function idsIn(facts) {
+  const others = facts.kinds.filter(({ kind, count }) => (kind === 'Warng' || kind === 'Error') && count > 0);
+  return facts.idCount - others.length;
+}
+
 export function factsOf(facts, show) {
   const lines = element('small', { text: counted(facts.lines, 'line', 'lines') });
   return element(
@@ -43,7 +49,7 @@ export function factsOf(facts, show) {
     fact('Rows', grouped(facts.rows), 'fact-rows', ...numbersIn(facts)),
     coveredIn(facts),
     stepBackIn(facts, show),
-    fact('IDs', grouped(facts.idCount), 'fact-ids'),
+    fact('IDs', grouped(idsIn(facts)), 'fact-ids'),
   );
 }
 

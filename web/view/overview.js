@@ -22,7 +22,9 @@ export function titleOf(states) {
   const parts = [];
   const atWork = of('waiting') + of('reading');
   if (atWork > 0) parts.push(`${atWork} at work`);
-  for (const state of ['refused', 'failed', 'stopped']) if (of(state) > 0) parts.push(states.length === 1 ? state : `${of(state)} ${state}`);
+  for (const state of ['refused', 'failed', 'stopped']) {
+    if (of(state) > 0) parts.push(states.length === 1 ? state : `${of(state)} ${state}`);
+  }
   if (parts.length === 0) parts.push(states.length === 1 ? 'accepted' : 'all accepted');
   return `${counted(states.length, 'file', 'files')}: ${parts.join(', ')} - Bushingowl`;
 }
