@@ -1,4 +1,4 @@
-// An accepted file is held by a worker of its own, with all of its bytes and rows. Hundreds of them would take all
+// An accepted file is held by a worker of its own, with all of its rows. Hundreds of them would take all
 // memory, so only the ones looked at last are held; another is read again when it is opened.
 
 const MOST_FILES = 6;

@@ -1,0 +1,34 @@
+// The next row that is looked for.
+
+// From a row on, forwards (1) or backwards (-1), the next one with this ID. Of an ID with less than four digits, or five to seven, only the number counts; with
+// four it is a standard one, with eight an extended one.
+export function findId(seen, text, from, step) {
+  const wanted = text.trim();
+  const warning = seen.names.findIndex((name) => name.toLowerCase() === wanted.toLowerCase() && /[^0-9a-f]/i.test(name));
+  if (warning < 0 && !/^[0-9a-f]{1,8}$/i.test(wanted)) return { wrong: 'an ID is one to eight hexadecimal digits, such as 123 or 18AB0001' };
+  const strips = new Set(warning < 0 ? stripsOf(seen, wanted) : [warning]);
+  const rows = seen.strips.length;
+  for (let index = from; index >= 0 && index < rows && strips.size > 0; index += step) {
+    if (strips.has(seen.strips[index])) return { index };
+  }
+  return { index: -1 };
+}
+
+function stripsOf(seen, wanted) {
+  const exact = wanted.length === 4 || wanted.length === 8;
+  const same = (name) => (exact ? name.toUpperCase() === wanted.toUpperCase() : parseInt(name, 16) === parseInt(wanted, 16));
+  return seen.names.flatMap((name, strip) => (/^[0-9A-F]+$/.test(name) && same(name) ? [strip] : []));
+}
+
+// The row on a line of the file, or the first one behind it.
+export function findLine(lineOfRow, lines, line) {
+  if (!Number.isInteger(line) || line < 1 || line > lines) return { wrong: `the file has lines 1 to ${lines}` };
+  let low = 0;
+  let high = lineOfRow.length;
+  while (low < high) {
+    const middle = (low + high) >> 1;
+    if (lineOfRow[middle] < line) low = middle + 1;
+    else high = middle;
+  }
+  return low < lineOfRow.length ? { index: low } : { wrong: 'no row stands on this line or behind it' };
+}

@@ -1,0 +1,19 @@
+// Bytes as they are shown in words.
+
+// The most bytes that are shown.
+const QUOTED = 40;
+
+// In quotes. What can't be seen or has a meaning there is shown as its number.
+export function quoted(letters) {
+  const shown = letters.slice(0, QUOTED).replace(/[^ !#-[\]-~]/g, (letter) => `\\x${hexadecimal(letter.charCodeAt(0), 2)}`);
+  return `"${shown}"${letters.length > QUOTED ? '...' : ''}`;
+}
+
+export function hexadecimal(number, digits) {
+  return number.toString(16).toUpperCase().padStart(digits, '0');
+}
+
+// With its thousands separated.
+export function separated(number) {
+  return String(number).replace(/\B(?=(\d{3})+$)/g, ',');
+}
