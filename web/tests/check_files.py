@@ -1,0 +1,118 @@
+"""Every file, dropped on the page: what is shown is what `./bushingowl`, `./owl` and the Rust crate say, and what can be kept is what they make."""
+import re
+from pathlib import Path
+
+from said import KINDS
+
+# Where the page shows a cell of a row, and where `owl show --csv` has it.
+CELLS = ['row', None, 'stamp', 'offset_us', 'bus', 'kind', 'id', 'length', 'data', 'step_back']
+
+
+def check_file(page, said, room):
+    page.anew()
+    page.drop(said.path)
+    page.until_done()
+    [[name, state]] = page.states()
+    equal('name', name, said.path.name)
+    equal('state', state, 'accepted' if said.accepted else 'refused')
+    if said.accepted:
+        check_facts(page, said)
+        check_rows(page, said)
+        check_outputs(page, said, room)
+    else:
+        check_refusal(page, said)
+
+
+def equal(what, shown, is_so):
+    assert shown == is_so, f'{what}: the page has {shown!r}, and it is {is_so!r}'
+
+
+def check_facts(page, said):
+    rows, check = said.rows(), said.check
+    equal('version', page.text('fact-version'), 'Telemotive ASCII' if said.form == 'ascii' else check['version'])
+    equal('start', page.text('fact-start'), re.search(r'start (\S+ \S+),', said.head)[1])
+    equal('rows', page.text('fact-rows'), f'{check["lines" if said.form == "ascii" else "rows"]:,}')
+    for kind in KINDS:
+        equal(kind, page.text('kind-' + kind.replace(' ', '-')), f'{said.kinds()[kind]:,}')
+    back = check['first_step_back']
+    equal('first step back', page.text('fact-first-step-back').split(',')[0], 'none' if back is None else f'row {back}')
+    offsets = [int(row['offset_us']) for row in rows]
+    equal('time covered', microseconds(page.text('fact-covered')), max(offsets) - min(offsets) if rows else None)
+    if said.bench is not None:
+        assert not said.bench.startswith(b'refused'), said.bench
+
+
+def microseconds(span):
+    """A span of time as the page spells it; nothing where there is none."""
+    if span == 'none':
+        return None
+    units = {'ms': 1000, 's': 10**6, 'min': 60 * 10**6, 'h': 3600 * 10**6, 'd': 86400 * 10**6}
+    parts = re.findall(r'([\d,.]+) (\w+)', span)
+    return sum(round(float(number.replace(',', '')) * units[unit]) for number, unit in parts)
+
+
+def check_rows(page, said):
+    rows = said.rows()
+    for index in sorted({0, len(rows) // 2, len(rows) - 1} - {-1}):
+        if index >= len(rows):
+            continue
+        line = line_of(said, index)
+        page.enter('find-line', str(line))
+        page.click('find-go')
+        equal(f'row {index}', page.until_row(index), cells_of(rows[index], line))
+
+
+def line_of(said, index):
+    """The line on which a row stands, counted without the page's or the library's help."""
+    lines = said.path.read_bytes().split(b'\n')[:-1]
+    if said.form == 'ascii':
+        return index + 1
+    return [number for number, line in enumerate(lines, 1) if number > 2 and not line.startswith(b';')][index]
+
+
+def cells_of(row, line):
+    offset = int(row['offset_us'])
+    data = ' '.join(re.findall('..', row['data']))
+    back = 'steps back' if row['step_back'] == '1' else ''
+    return [row['row'], str(line), row['stamp'], f'{offset // 1000}.{offset % 1000:03}', row['bus'], row['kind'], row['id'], row['length'], data, back]
+
+
+def check_outputs(page, said, room):
+    for what, made in said.outputs().items():
+        name, bytes_ = page.download(f'make-{what}', room / f'{said.path.name}-{what}')
+        equal(f'{what}, whether it is made', name is None, made is None)
+        if made is not None:
+            equal(f'{what}, its bytes', bytes_, made)
+    if said.bench is not None:
+        equal('ASCII export, by the bench program', said.outputs()['ascii'], said.bench)
+    lines = said.crate if said.form == 'ascii' else said.crate.split(b'\r\n', 1)[1]
+    equal('ASCII export, by the Rust crate', said.outputs()['ascii'], lines)
+
+
+def check_refusal(page, said):
+    check = said.check
+    equal('refusal', page.text('words'), check['reason'])
+    equal('why', page.text('why'), said.why())
+    equal('expected', page.text('expected'), said.expected())
+    equal('remedy', page.text('remedy'), said.remedy())
+    number, place = check['refusal'], check['place']
+    first = said.crate.split(b'\r\n')[0].decode()
+    equal('refusal, by the Rust crate', first, f'refused {number} at line {place}')
+    if said.bench is not None:
+        equal('refusal, by the bench program', said.bench.decode().strip(), first)
+    if said.expected():
+        check_marked(page, said, place)
+    for hook in ('make-ascii', 'make-house', 'make-csv', 'list'):
+        assert not page.is_there(hook), f'a refused file has {hook}'
+
+
+def check_marked(page, said, place):
+    """What is marked are the letters over the carets of `owl explain`, where they can be seen."""
+    shown, carets = [line.split(' | ', 1)[1] for line in said.explained if ' | ' in line][:2]
+    start = carets.index('^')
+    marked = shown[start:start + carets.count('^')]
+    is_marked = page.text('wrong')
+    if re.search(r'\\x', marked) or '...' in shown:
+        return
+    missing = len(carets.strip()) == 1 and re.search(r'ended|ends|empty|there is none', said.why())
+    equal('what is marked', is_marked, '^' if missing else marked)
