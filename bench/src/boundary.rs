@@ -17,7 +17,7 @@ extern "C" {
 /// The numbers of the answer, of either call.
 const ANSWER: usize = 4;
 /// The numbers on both sides of it.
-const AROUND: usize = 8;
+pub const AROUND: usize = 8;
 
 /// The answer, if nothing around it was changed. All the numbers are `before` first.
 pub fn explain(line: &[u8], version: u32, number: u64, before: u64) -> Option<[u64; ANSWER]> {

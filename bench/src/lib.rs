@@ -6,5 +6,7 @@ pub mod compare;
 pub mod cpu_time;
 pub mod expert;
 pub mod inputs;
+pub mod library;
 pub mod night;
+mod served;
 pub mod week;

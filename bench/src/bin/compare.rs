@@ -1,4 +1,4 @@
-//! Compares the library with the expert: `compare [INPUTS [SEED]]`.
+//! Compares the library with the expert: `compare [INPUTS [SEED]]`. With `--wasm SERVE LIBRARY` before these it is the library as WebAssembly.
 
 use bushingowl_bench::compare::ascii_limits::ascii_limits;
 use bushingowl_bench::compare::channels::channels;
@@ -13,6 +13,7 @@ use bushingowl_bench::compare::long_lines::long_lines;
 use bushingowl_bench::compare::offset_limits::offset_limits;
 use bushingowl_bench::compare::runs::Runs;
 use bushingowl_bench::compare::Difference;
+use bushingowl_bench::library::Library;
 use std::process::ExitCode;
 
 const INPUTS: u64 = 1_000_000;
@@ -20,55 +21,61 @@ const INPUTS: u64 = 1_000_000;
 const INPUTS_A_ROW: u64 = 100;
 const SEED: u64 = 20_261_115;
 
+const USAGE: &str = "compare [--wasm SERVE LIBRARY] [INPUTS [SEED]]";
+
 fn main() -> ExitCode {
-    let mut arguments = std::env::args().skip(1).map(|word| word.parse());
+    let mut words: Vec<String> = std::env::args().skip(1).collect();
+    let library = match Library::named(&mut words) {
+        Ok(library) => library,
+        Err(reason) => {
+            eprintln!("compare: {reason}");
+            return ExitCode::from(2);
+        }
+    };
+    let mut numbers = words.iter().map(|word| word.parse());
     let (Ok(inputs), Ok(seed)) = (
-        arguments.next().unwrap_or(Ok(INPUTS)),
-        arguments.next().unwrap_or(Ok(SEED)),
+        numbers.next().unwrap_or(Ok(INPUTS)),
+        numbers.next().unwrap_or(Ok(SEED)),
     ) else {
-        eprintln!("compare [INPUTS [SEED]]");
+        eprintln!("{USAGE}");
         return ExitCode::from(2);
     };
     println!("seed {seed}");
-    let mut runs = Runs::new(seed);
-    for input in 1..=inputs {
-        if let Err(difference) = one_input(&mut runs) {
-            return differs(&format!("input {input}"), &difference);
+    let mut runs = Runs::new(seed, library);
+    match all(&mut runs, inputs) {
+        Ok(()) => finish(&runs, inputs),
+        Err((at, difference)) => {
+            println!("{at}: {}", difference.what);
+            println!("{}", difference.input);
+            ExitCode::FAILURE
         }
+    }
+}
+
+/// Everything, up to the first difference, with where that is.
+fn all(runs: &mut Runs, inputs: u64) -> Result<(), (String, Difference)> {
+    for input in 1..=inputs {
+        one_input(runs).map_err(|found| (format!("input {input}"), found))?;
     }
     println!("{inputs} inputs at random done, now the lines to be explained");
     for row in 1..=inputs.div_ceil(INPUTS_A_ROW) {
-        if let Err(difference) = one_row(&mut runs) {
-            return differs(&format!("lines of row {row}"), &difference);
-        }
+        one_row(runs).map_err(|found| (format!("lines of row {row}"), found))?;
     }
-    if let Err(difference) = offset_limits(&mut runs) {
-        return differs("offset limits", &difference);
-    }
-    if let Err(difference) = channels(&mut runs) {
-        return differs("channels", &difference);
-    }
-    if let Err(difference) = every_mark(&mut runs) {
-        return differs("marks", &difference);
-    }
-    if let Err(difference) = every_field(&mut runs).and_then(|()| long_lines(&mut runs)) {
-        return differs("short fields and long lines", &difference);
-    }
+    let at = |place: &str| {
+        let place = place.to_string();
+        move |found| (place, found)
+    };
+    offset_limits(runs).map_err(at("offset limits"))?;
+    channels(runs).map_err(at("channels"))?;
+    every_mark(runs).map_err(at("marks"))?;
+    every_field(runs).map_err(at("short fields"))?;
+    long_lines(runs).map_err(at("long lines"))?;
     println!("lines done, now every part of a line of ASCII");
-    if let Err(difference) = every_ascii(&mut runs).and_then(|()| every_part(&mut runs)) {
-        return differs("every part", &difference);
-    }
+    every_ascii(runs).map_err(at("every part"))?;
+    every_part(runs).map_err(at("every part"))?;
     println!("parts done, now the size limits");
-    if let Err(difference) = limits(&mut runs).and_then(|()| ascii_limits(&mut runs)) {
-        return differs("size limits", &difference);
-    }
-    finish(&runs, inputs)
-}
-
-fn differs(at: &str, difference: &Difference) -> ExitCode {
-    println!("{at}: {}", difference.what);
-    println!("{}", difference.input);
-    ExitCode::FAILURE
+    limits(runs).map_err(at("size limits"))?;
+    ascii_limits(runs).map_err(at("size limits of ASCII"))
 }
 
 fn finish(runs: &Runs, inputs: u64) -> ExitCode {

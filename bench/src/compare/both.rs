@@ -1,12 +1,11 @@
 //! One call of the library and of the expert on equal buffers; all that they leave behind is compared.
 
 use super::{shown, Difference};
-use crate::boundary;
 use crate::expert;
 use crate::inputs::random::Random;
 use crate::inputs::records::Marked;
-use bushingowl::{numbers, RECORD};
-use std::cell::Cell;
+use crate::library::{bytes_of, Area, Call, Library};
+use bushingowl::RECORD;
 use std::hint::black_box;
 use std::ops::Range;
 
@@ -21,6 +20,7 @@ const BEYOND: [&[u8]; 2] = [
 
 /// The buffers, kept from call to call.
 pub struct Both {
+    called: Library,
     random: Random,
     source: Vec<u8>,
     source_before: Vec<u8>,
@@ -30,8 +30,9 @@ pub struct Both {
 }
 
 impl Both {
-    pub fn new(seed: u64) -> Self {
+    pub fn new(seed: u64, called: Library) -> Self {
         Both {
+            called,
             random: Random::new(seed),
             source: Vec::new(),
             source_before: Vec::new(),
@@ -48,7 +49,7 @@ impl Both {
 
     pub fn read(&mut self, text: &[u8], room: usize) -> Result<[u64; 7], Difference> {
         let written = |answer: &[u64; 7]| 20 * answer[4] as usize;
-        self.run(text, room, numbers::read, expert::read, written)
+        self.run(Call::Read, text, room, expert::read, written)
             .map_err(|what| Difference {
                 what: format!("reading into {room} bytes: {what}"),
                 input: shown(text),
@@ -63,10 +64,15 @@ impl Both {
         records: &[u8],
         room: usize,
     ) -> Result<[u64; 3], Difference> {
+        let call = Call::Write {
+            version,
+            start,
+            first,
+        };
         self.run(
+            call,
             records,
             room,
-            |records, out| numbers::write(version, start, first, records, out),
             |records, out| expert::write(version, start, first, records, out),
             |answer| answer[2] as usize,
         )
@@ -86,9 +92,9 @@ impl Both {
         room: usize,
     ) -> Result<[u64; 5], Difference> {
         self.run(
+            Call::Export { start, channel },
             records,
             room,
-            |records, out| numbers::export(start, channel, records, out),
             |records, out| expert::export(start, channel, records, out),
             |answer| answer[2] as usize,
         )
@@ -99,33 +105,17 @@ impl Both {
     }
 
     pub fn unpack(&mut self, record: &[u8]) -> Result<[u64; 10], Difference> {
-        self.run(
-            record,
-            0,
-            |record, _| numbers::unpack(record),
-            |record, _| expert::unpack(record),
-            |_| 0,
-        )
-        .map_err(|what| Difference {
-            what: format!("unpacking: {what}"),
-            input: shown(record),
-        })
+        let expert = |record: &[u8], _: &mut [u8]| expert::unpack(record);
+        self.run(Call::Unpack, record, 0, expert, |_| 0)
+            .map_err(|what| Difference {
+                what: format!("unpacking: {what}"),
+                input: shown(record),
+            })
     }
 
     pub fn pack(&mut self, fields: &Marked, room: usize) -> Result<[u64; 2], Difference> {
-        let unchanged = Cell::new(true);
-        let library = |_: &[u8], out: &mut [u8]| {
-            let mut lent = *fields;
-            let answer = numbers::pack(black_box(&lent), out);
-            unchanged.set(*black_box(&mut lent) == *fields);
-            answer
-        };
         let expert = |_: &[u8], out: &mut [u8]| expert::pack(fields, out);
-        self.run(&[], room, library, expert, |_| 20)
-            .and_then(|answer| match unchanged.get() {
-                true => Ok(answer),
-                false => Err("the library changed its fields".to_string()),
-            })
+        self.run(Call::Pack, &bytes_of(fields), room, expert, |_| 20)
             .map_err(|what| Difference {
                 what: format!("packing into {room} bytes: {what}"),
                 input: format!("{fields:?}"),
@@ -138,57 +128,44 @@ impl Both {
         version: u32,
         number: u64,
     ) -> Result<[u64; 4], Difference> {
-        let before = self.random.number();
-        let unchanged = Cell::new(true);
-        let library = |line: &[u8], _: &mut [u8]| {
-            let answer = boundary::explain(line, version, number, before);
-            unchanged.set(answer.is_some());
-            answer.unwrap_or_default()
-        };
         let expert = |line: &[u8], _: &mut [u8]| expert::explain(line, version, number);
-        let answer = self.run(line, 0, library, expert, |_| 0);
-        match unchanged.get() {
-            true => answer,
-            false => Err("the library changed numbers around its answer".to_string()),
-        }
-        .map_err(|what| Difference {
-            what: format!("explaining version {version}, number {number}: {what}"),
-            input: shown(line),
-        })
+        self.run(Call::Explain { version, number }, line, 0, expert, |_| 0)
+            .map_err(|what| Difference {
+                what: format!("explaining version {version}, number {number}: {what}"),
+                input: shown(line),
+            })
     }
 
     pub fn read_ascii(&mut self, text: &[u8], room: usize) -> Result<[u64; 4], Difference> {
-        let before = self.random.number();
-        let unchanged = Cell::new(true);
-        let library = |text: &[u8], out: &mut [u8]| {
-            let answer = boundary::read_ascii(text, out, before);
-            unchanged.set(answer.is_some());
-            answer.unwrap_or_default()
-        };
         let written = |answer: &[u64; 4]| RECORD * answer[3] as usize;
-        let answer = self.run(text, room, library, expert::read_ascii, written);
-        match unchanged.get() {
-            true => answer,
-            false => Err("the library changed numbers around its answer".to_string()),
-        }
-        .map_err(|what| Difference {
-            what: format!("reading ASCII into {room} bytes: {what}"),
-            input: shown(text),
-        })
+        self.run(Call::ReadAscii, text, room, expert::read_ascii, written)
+            .map_err(|what| Difference {
+                what: format!("reading ASCII into {room} bytes: {what}"),
+                input: shown(text),
+            })
     }
 
     /// Both calls. `written` gives the bytes that an accepted call has written, by its answer.
     fn run<const N: usize>(
         &mut self,
+        call: Call,
         input: &[u8],
         room: usize,
-        library: impl Fn(&[u8], &mut [u8]) -> [u64; N],
         expert: impl Fn(&[u8], &mut [u8]) -> [u64; N],
         written: impl Fn(&[u64; N]) -> usize,
     ) -> Result<[u64; N], String> {
         self.prepare(input, room);
         let (source, out) = (GUARD..GUARD + input.len(), GUARD..GUARD + room);
-        let answer = library(&self.source[source.clone()], &mut self.library[out.clone()]);
+        let lent = |bytes, lent: &Range<usize>| Area {
+            bytes,
+            lent: lent.clone(),
+        };
+        let (answer, _) = self.called.call(
+            call,
+            lent(&mut self.source, &source),
+            lent(&mut self.library, &out),
+            self.random.number(),
+        )?;
         if *black_box(&mut self.source) != self.source_before {
             return Err("the library changed its input".to_string());
         }

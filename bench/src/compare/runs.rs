@@ -10,6 +10,7 @@ use crate::inputs::numbers::good_first;
 use crate::inputs::random::Random;
 use crate::inputs::records::{packed, Marked};
 use crate::inputs::{LAST_CHANNEL, LAST_NUMBER};
+use crate::library::Library;
 use bushingowl::{explain_refusal, Reason, Refused, RowFault};
 use bushingowl::{CHANNEL_AS_BUS, LEAST_ROW, MOST_HEADER, MOST_LINE, MOST_ROW, RECORD};
 
@@ -20,11 +21,11 @@ pub struct Runs {
 }
 
 impl Runs {
-    pub fn new(seed: u64) -> Self {
+    pub fn new(seed: u64, library: Library) -> Self {
         Runs {
             random: Random::new(seed),
             tally: Tally::default(),
-            both: Both::new(!seed),
+            both: Both::new(!seed, library),
         }
     }
 
