@@ -7,6 +7,7 @@ pub mod cpu_time;
 pub mod expert;
 pub mod inputs;
 pub mod library;
+pub mod measured;
 pub mod night;
 mod served;
 pub mod week;

@@ -1,38 +1,26 @@
 //! Measures the library and the expert, and prints a table: `measure [ROWS...]`. An earlier library is measured beside them if there is one.
 
-use bushingowl::{numbers, CHANNEL_AS_BENCH, MOST_HEADER, MOST_LINE, MOST_ROW, RECORD};
+use bushingowl::{numbers, MOST_LINE, RECORD};
 use bushingowl_bench::before::Before;
 use bushingowl_bench::boundary;
 use bushingowl_bench::cpu_time::cpu_time;
 use bushingowl_bench::expert;
-use bushingowl_bench::inputs::marks::first_mark;
-use bushingowl_bench::inputs::random::Random;
-use bushingowl_bench::inputs::realistic::{in_columns, realistic};
-use bushingowl_bench::inputs::records::packed_all;
+use bushingowl_bench::measured::{rows, Measured, CHANNEL, FIRST, START};
 use std::hint::black_box;
 use std::iter::zip;
 use std::process::ExitCode;
 use std::time::{Duration, Instant};
 
-/// The most rows of a trace: the last row number.
-const MOST_ROWS: usize = 999_999;
-const ROWS: [usize; 3] = [10_000, 100_000, MOST_ROWS];
 const USAGE: &str = "\
 usage: measure [ROWS...]
 times traces of so many rows, each a number from 1 to 999999; without ROWS those of 10000, 100000 and 999999";
-/// 1 November 2023, ten o'clock.
-const START: u64 = 3_907_994_400_000;
-/// The number of the first row.
-const FIRST: u64 = 1;
-/// The channel of bus 0 in an export, which it always was before Order 6.
-const CHANNEL: u64 = CHANNEL_AS_BENCH;
 /// How long each operation is tried, and how often at least.
 const LONG_ENOUGH: Duration = Duration::from_millis(600);
 const OFTEN_ENOUGH: usize = 7;
 
 fn main() -> ExitCode {
-    let words = std::env::args().skip(1);
-    let mut sizes = match words.map(rows).collect::<Result<Vec<_>, _>>() {
+    let words: Vec<String> = std::env::args().skip(1).collect();
+    let sizes = match rows(&words) {
         Ok(sizes) => sizes,
         Err(word) => {
             eprintln!("measure: {word:?} is no number of rows that a trace can be measured with");
@@ -40,9 +28,6 @@ fn main() -> ExitCode {
             return ExitCode::from(2);
         }
     };
-    if sizes.is_empty() {
-        sizes.extend(ROWS);
-    }
     let before = match Before::named() {
         Ok(before) => before,
         Err(reason) => {
@@ -58,14 +43,6 @@ fn main() -> ExitCode {
         }
     }
     ExitCode::SUCCESS
-}
-
-/// The rows that a word asks for, or the word.
-fn rows(word: String) -> Result<usize, String> {
-    match word.parse() {
-        Ok(rows @ 1..=MOST_ROWS) => Ok(rows),
-        _ => Err(word),
-    }
 }
 
 fn print_head(with_before: bool) {
@@ -145,29 +122,21 @@ impl Side {
     }
 }
 
-/// The records of a trace as a logger records it. None steps back, and so none has a mark, as an earlier library needs it.
-fn unmarked(rows: usize, version: u32) -> Vec<u8> {
-    let mut random = Random::new(rows as u64);
-    let records = packed_all(&realistic(&mut random, u64::from(version), rows));
-    assert_eq!(first_mark(&records), 0, "a record steps back");
-    records
-}
-
 fn measure_all(sides: &[Side], rows: usize, version: u32) {
-    let records = unmarked(rows, version);
-    let mut text = vec![0; MOST_HEADER + rows * MOST_ROW];
-    let [.., len] = expert::write(version, START, FIRST, &records, &mut text);
-    text.truncate(len as usize);
-    let mut lines = vec![0; rows * MOST_LINE];
-    let [_, _, len, exported, _] = expert::export(START, CHANNEL, &records, &mut lines);
-    lines.truncate(len as usize);
+    let Measured {
+        records,
+        text,
+        columns,
+        lines,
+        exported,
+    } = Measured::new(rows, version);
     let case = Case {
         sides: sides.iter().map(Some).collect(),
         rows,
         measured: rows,
         version,
     };
-    for (name, text) in [("read", &text), ("read columns", &in_columns(&text))] {
+    for (name, text) in [("read", &text), ("read columns", &columns)] {
         case.measure(
             name,
             records.len(),
@@ -192,12 +161,12 @@ fn measure_all(sides: &[Side], rows: usize, version: u32) {
             .iter()
             .map(|side| Some(side).filter(|side| side.reads_ascii()))
             .collect(),
-        measured: exported as usize,
+        measured: exported,
         ..case
     };
     case.measure(
         "read ascii",
-        exported as usize * RECORD,
+        exported * RECORD,
         |side, out| side.read_ascii(black_box(&lines), out),
         |_| lines.len(),
     );
