@@ -96,6 +96,11 @@ fn elsewhere(runs: &mut Runs, row: &RowFields) -> Checked {
     // The digits behind the point are not as many.
     let (kind, known) = ("explain: row of another version", Some(WRONG_OFFSET));
     runs.explain(kind, &line, 23 - row.version, right, known)?;
+    for power in [20, 24, 32, 48, 63] {
+        // It would be explained with the number that the lower bits are.
+        let (kind, number) = ("explain: past the last number", 1 << power | right);
+        runs.explain(kind, &line, 23 - row.version, number, Some(UNEXPLAINED))?;
+    }
     for line in row.too_late(&mut runs.random) {
         let kind = "explain: too large an offset";
         runs.explain(kind, &line, row.version, row.expected, known)?;
