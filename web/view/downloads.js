@@ -27,7 +27,7 @@ export class Downloads {
     this.held = held;
     this.facts = facts;
     this.channel = this.channelChoice();
-    this.version = choice('Version', [[11, '1.1'], [12, '1.2']], facts.houseVersion, 'version');
+    this.version = choice(facts.form === 'ascii' ? 'Version of the trace' : 'Version of the house spelling', [[11, '1.1'], [12, '1.2']], facts.houseVersion, 'version');
     this.version.select.addEventListener('change', () => this.showNames());
     this.names = {};
     this.buttons = WHATS.map((what) => this.buttonFor(what));
