@@ -42,7 +42,13 @@ fn link(folder: &Path) {
     if env::var_os("BUSHINGOWL_LIB").is_some_and(|named| !named.is_empty()) {
         println!("cargo:rerun-if-changed={}", archive.display());
     } else {
-        for made_of in ["library", "../tools/archive", "../crates", "../crates.txt"] {
+        for made_of in [
+            "library",
+            "../tools/archive",
+            "../tools/module",
+            "../crates",
+            "../crates.txt",
+        ] {
             println!("cargo:rerun-if-changed={made_of}");
         }
     }
