@@ -4,6 +4,7 @@ use super::runs::Runs;
 use super::Checked;
 use crate::inputs::ascii::{widened, AsciiStyle, AsciiText, Line, DAY, LEAST};
 use crate::inputs::random::Random;
+use bushingowl::RECORD;
 
 const LONGEST_TEXT: usize = 134_217_728;
 const MOST_LINES: usize = 999_999;
@@ -27,8 +28,8 @@ fn longest(random: &mut Random) -> AsciiText {
     let first = 36_585 * DAY;
     let mut stamp = first;
     for left in (1..=MOST_LINES).rev() {
-        stamp = (stamp + random.below(20_000) as i64 - 5_000).max(first);
         let line = Line::new(random, stamp);
+        stamp = (stamp + random.below(20_000) as i64 - 5_000).max(first);
         let parts = line.parts(random, &style.style);
         let end = style.end(random);
         let aim = (LONGEST_TEXT - text.text.len()) / left - end.len();
@@ -44,6 +45,7 @@ fn bytes(runs: &mut Runs) -> Checked {
     let known = text.known();
     let mut text = text.text;
     assert_eq!(text.len(), LONGEST_TEXT);
+    assert_eq!(known.1.len(), MOST_LINES * RECORD, "it is to be accepted");
     runs.read_ascii(KIND, &text, Some(&known))?;
     for more in b"\n 3" {
         text.push(*more);
