@@ -59,12 +59,17 @@ impl Library {
     pub fn named(words: &mut Vec<String>) -> Result<Library, String> {
         match words.as_slice() {
             [option, serve, library, ..] if option == "--wasm" => {
-                let served = Served::start(serve, library)?;
+                let library = Library::wasm(serve, library)?;
                 words.drain(..3);
-                Ok(Library::Served(served))
+                Ok(library)
             }
             _ => Ok(Library::Linked),
         }
+    }
+
+    /// A library as WebAssembly, in a process that has called nothing yet.
+    pub fn wasm(serve: &str, library: &str) -> Result<Library, String> {
+        Served::start(serve, library).map(Library::Served)
     }
 
     /// Does a call. The numbers of the answer, and those around it, are `before` first.

@@ -1,4 +1,4 @@
-//! Measures the library as WebAssembly beside the one that is linked, and prints a table: `measure_wasm --wasm SERVE LIBRARY [ROWS...]`.
+//! Measures the library as WebAssembly beside the one that is linked, and prints a table: `measure_wasm SERVE LIBRARY [ROWS...]`.
 
 use bushingowl::{MOST_LINE, RECORD};
 use bushingowl_bench::library::{Area, Call, Library};
@@ -17,8 +17,10 @@ const UNSET: u64 = u64::MAX;
 
 fn main() -> ExitCode {
     let words: Vec<String> = std::env::args().skip(1).collect();
-    // The three words that name the library as WebAssembly.
-    let (named, words) = words.split_at(words.len().min(3));
+    let [serve, library, words @ ..] = words.as_slice() else {
+        eprintln!("{USAGE}");
+        return ExitCode::from(2);
+    };
     let sizes = match rows(words) {
         Ok(sizes) => sizes,
         Err(word) => {
@@ -34,7 +36,8 @@ fn main() -> ExitCode {
     for rows in sizes {
         for version in [11, 12] {
             let trace = Trace {
-                named,
+                serve,
+                library,
                 rows,
                 version,
             };
@@ -48,7 +51,8 @@ fn main() -> ExitCode {
 }
 
 struct Trace<'a> {
-    named: &'a [String],
+    serve: &'a str,
+    library: &'a str,
     rows: usize,
     version: u32,
 }
@@ -84,7 +88,7 @@ impl Trace<'_> {
         room: usize,
         measured: usize,
     ) -> Result<(), String> {
-        let wasm = Library::named(&mut self.named.to_vec())?;
+        let wasm = Library::wasm(self.serve, self.library)?;
         let mut sides = [Library::Linked, wasm].map(|library| Side::new(library, room));
         let mut answers = [[UNSET; N]; 2];
         let begin = Instant::now();
