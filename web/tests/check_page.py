@@ -28,6 +28,8 @@ def case_two_files(page, folder):
     page.drop(sample('small.trc'), sample('wrong-row.trc'))
     page.until_done(2)
     equal('states', page.states(), [['small.trc', 'accepted'], ['wrong-row.trc', 'refused']])
+    # What is told of all files together comes a moment later.
+    page.browser.until('return !document.title.includes("at work")')
     equal('title', page.browser.run('return document.title').split(' - ')[0], '2 files: 1 refused')
     links = page.text('links')
     assert 'small.trc' in links and 'wrong-row.trc' in links, links
