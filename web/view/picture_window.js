@@ -49,11 +49,9 @@ export class TimeWindow {
   }
 }
 
-// The column of a picture in which this offset lies.
+// The column of a picture in which this offset lies: the last that begins there or before.
 export function columnOf(picture, offset) {
-  const span = picture.to - picture.from + 1;
-  const column = Math.ceil(((offset - picture.from + 1) * picture.columns) / span) - 1;
-  return Math.min(Math.max(column, 0), picture.columns - 1);
+  return Math.max(picture.begins.findLastIndex((begin) => begin <= offset), 0);
 }
 
 // The offset in the middle of a column.

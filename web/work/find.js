@@ -1,12 +1,16 @@
 // The next row that is looked for.
 
+// The strips that have a name instead of an ID.
+const NAMED = ['Warng', 'Error'];
+
 // From a row on, forwards (1) or backwards (-1), the next one with this ID. Of an ID with less than four digits, or five to seven, only the number counts; with
 // four it is a standard one, with eight an extended one.
 export function findId(seen, text, from, step) {
   const wanted = text.trim();
-  const warning = seen.names.findIndex((name) => name.toLowerCase() === wanted.toLowerCase() && /[^0-9a-f]/i.test(name));
-  if (warning < 0 && !/^[0-9a-f]{1,8}$/i.test(wanted)) return { wrong: 'an ID is one to eight hexadecimal digits, such as 123 or 18AB0001' };
-  const strips = new Set(warning < 0 ? stripsOf(seen, wanted) : [warning]);
+  const named = NAMED.find((name) => name.toLowerCase() === wanted.toLowerCase());
+  if (!named && !/^[0-9a-f]{1,8}$/i.test(wanted)) return { wrong: 'an ID is one to eight hexadecimal digits, such as 123 or 18AB0001' };
+  const isWanted = named ? (name) => name === named : sameId(wanted);
+  const strips = new Set(seen.names.flatMap((name, strip) => (isWanted(name) ? [strip] : [])));
   const rows = seen.strips.length;
   for (let index = from; index >= 0 && index < rows && strips.size > 0; index += step) {
     if (strips.has(seen.strips[index])) return { index };
@@ -14,10 +18,10 @@ export function findId(seen, text, from, step) {
   return { index: -1 };
 }
 
-function stripsOf(seen, wanted) {
+function sameId(wanted) {
   const exact = wanted.length === 4 || wanted.length === 8;
-  const same = (name) => (exact ? name.toUpperCase() === wanted.toUpperCase() : parseInt(name, 16) === parseInt(wanted, 16));
-  return seen.names.flatMap((name, strip) => (/^[0-9A-F]+$/.test(name) && same(name) ? [strip] : []));
+  const same = (name) => (exact ? name === wanted.toUpperCase() : parseInt(name, 16) === parseInt(wanted, 16));
+  return (name) => !NAMED.includes(name) && same(name);
 }
 
 // The row on a line of the file, or the first one behind it.

@@ -6,15 +6,15 @@ export function pictureOf(seen, { from, to, columns, strips }) {
     from,
     to,
     columns,
+    begins: beginsOf(from, to, columns),
     counts: new Uint32Array(strips * columns),
     first: new Int32Array(columns).fill(-1),
     stepBack: new Int32Array(columns).fill(-1),
     error: new Int32Array(columns).fill(-1),
   };
-  const span = to - from + 1;
   seen.offsets.forEach((offset, index) => {
     if (offset < from || offset > to) return;
-    const column = columnOf(offset - from, columns, span);
+    const column = columnAt(picture, offset);
     const rank = seen.ranks[seen.strips[index]];
     if (rank < strips) picture.counts[rank * columns + column] += 1;
     keepFirst(picture.first, column, index);
@@ -24,9 +24,20 @@ export function pictureOf(seen, { from, to, columns, strips }) {
   return picture;
 }
 
-// A column begins at its share of the span, cut to whole microseconds.
-function columnOf(behind, columns, span) {
-  return Math.min(columns, Math.ceil(((behind + 1) * columns) / span)) - 1;
+// A column begins at its share of the span, cut to whole microseconds. The share of the longest spans, as one product, would be rounded.
+function beginsOf(from, to, columns) {
+  const span = to - from + 1;
+  const each = Math.floor(span / columns);
+  const rest = span % columns;
+  return Float64Array.from({ length: columns }, (_, column) => from + column * each + Math.floor((column * rest) / columns));
+}
+
+// The last column that begins at this offset or before: nearly by its share, and then just so.
+function columnAt({ from, to, columns, begins }, offset) {
+  let column = Math.min(columns, Math.ceil(((offset - from + 1) * columns) / (to - from + 1))) - 1;
+  while (column + 1 < columns && begins[column + 1] <= offset) column += 1;
+  while (begins[column] > offset) column -= 1;
+  return column;
 }
 
 function keepFirst(rows, column, index) {
