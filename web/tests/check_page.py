@@ -4,6 +4,7 @@ import os
 import time
 
 import big
+import check_desk
 import check_requests
 from check_files import equal
 from files import rows
@@ -16,6 +17,7 @@ def cases(room):
     named = {name: case for name, case in globals().items() if name.startswith('case_')}
     for name, case in named.items():
         yield name[5:].replace('_', ' '), lambda page, case=case: case(page, folder)
+    yield from check_desk.cases(folder)
     yield from check_requests.cases(folder)
 
 

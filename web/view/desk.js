@@ -42,11 +42,11 @@ export class Desk {
     return [...all.filter((section) => section.wanted), ...all.filter((section) => !section.wanted)];
   }
 
-  // This one is looked at now; those that were not for longest give their memory back.
+  // This one came or was opened now; those that are looked at least give their memory back.
   use(section) {
     this.uses += 1;
     section.used = this.uses;
-    for (const other of toLetGo(this.sections, section)) other.letGo();
+    for (const other of toLetGo(this.sections)) other.letGo();
   }
 
   close(section) {

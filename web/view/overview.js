@@ -77,7 +77,9 @@ export class Overview {
     const { links } = this.places;
     const group = [...links.children].filter((one) => one !== item && one.classList.contains('is-bad') === bad);
     const behind = group.find((one) => Number(one.dataset.number) > Number(item.dataset.number));
+    const focused = item.contains(document.activeElement) ? document.activeElement : null;
     links.insertBefore(item, behind || (bad ? links.querySelector('li:not(.is-bad)') : null));
+    if (focused) focused.focus({ preventScroll: true });
   }
 
   linkTo(section) {

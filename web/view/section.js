@@ -48,6 +48,10 @@ export class FileSection {
     return this.body !== null;
   }
 
+  isLookedAt() {
+    return this.isOpen() || this.wanted;
+  }
+
   isHeld() {
     return this.held !== null && this.state === 'accepted';
   }
@@ -104,13 +108,11 @@ export class FileSection {
   }
 
   again(form) {
-    const focused = this.element.contains(document.activeElement);
     this.end();
     this.shut();
     this.form = form;
     this.wanted = true;
     this.become('waiting', '');
-    if (focused) this.head.focus();
     this.desk.turn();
   }
 
@@ -145,15 +147,18 @@ export class FileSection {
 
   shut() {
     if (!this.isOpen()) return;
+    const focused = this.place.contains(document.activeElement);
     this.body.end();
     this.body = null;
     this.place.replaceChildren();
     this.place.hidden = true;
     this.head.opened(false);
+    if (focused) this.head.focus();
   }
 
-  // From the overview: opened, and the keyboard goes there.
+  // From the overview: opened, now or as soon as it is read, and the keyboard goes there.
   visit() {
+    if (this.state === 'waiting' || this.state === 'reading') this.wanted = true;
     this.open();
     this.element.scrollIntoView();
     this.element.focus({ preventScroll: true });
