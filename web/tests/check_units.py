@@ -4,7 +4,7 @@ import subprocess
 from said import ROOT
 
 # Each script, and the side of the page that it tries.
-SCRIPTS = {'recount.js': 'work'}
+SCRIPTS = {'recount.js': 'work', 'shown.js': 'view'}
 
 
 def cases(room):

@@ -48,8 +48,10 @@ export class Picture {
     this.unlook();
   }
 
+  // No more than there are microseconds, of which each has its own column then.
   columns() {
-    return Math.max(50, Math.floor(this.parts.plot.clientWidth / COLUMN));
+    const room = Math.max(50, Math.floor(this.parts.plot.clientWidth / COLUMN));
+    return Math.min(room, this.window.span());
   }
 
   resized() {
@@ -88,7 +90,7 @@ export class Picture {
     const ratio = paper ? 3 : 4;
     drawMarks(this.parts.marks, this.picture, width, ratio);
     drawStrips(this.parts.strips, this.picture, this.drawn, width, ratio);
-    showAxis(this.parts.axis, this.window, width);
+    showAxis(this.parts.axis, this.picture, width);
   }
 
   more(strips) {

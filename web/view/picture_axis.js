@@ -12,6 +12,7 @@ const UNITS = [
 ];
 const ROOM = 9.5;
 const GAP = 26;
+const LEAST_APART = 40;
 
 function stepsOfTicks() {
   const steps = [];
@@ -54,28 +55,41 @@ export function tickLabel(offset, step) {
   return withPoint(offset, step, UNITS[offset < 10000000 ? 4 : 3]);
 }
 
-function ticksAt(window, step) {
+// Where a tick stands, as a part of the width.
+function tickAt({ from, to }, at, step) {
+  return { at, part: (at - from) / (to - from + 1), label: tickLabel(at, step) };
+}
+
+function ticksBy(picture, step) {
   const ticks = [];
-  for (let at = Math.ceil(window.from / step) * step; at <= window.to; at += step) ticks.push(at);
+  for (let at = Math.ceil(picture.from / step) * step; at <= picture.to; at += step) ticks.push(tickAt(picture, at, step));
   return ticks;
 }
 
-export function ticksFor(window, width) {
-  for (const step of STEPS) {
-    const pixels = (width * step) / window.span();
-    if (pixels < 40) continue;
-    const longest = Math.max(tickLabel(window.from, step).length, tickLabel(window.to, step).length);
-    if (pixels >= longest * ROOM + GAP) return ticksAt(window, step).map((at) => ({ at, label: tickLabel(at, step) }));
-  }
-  return [{ at: window.from, label: tickLabel(window.from, 1000) }];
+// Whether the ticks of this step are so far apart that each has room for its label.
+function haveRoom(picture, width, step) {
+  const pixels = (width * step) / (picture.to - picture.from + 1);
+  return pixels >= LEAST_APART && ticksBy(picture, step).every(({ label }) => pixels >= label.length * ROOM + GAP);
 }
 
-export function showAxis(place, window, width) {
-  const ticks = ticksFor(window, width).map(({ at, label }) => {
+// Where no tick has room for its label: where the picture begins, cut to as many digits as there is room for.
+function beginTick({ from }, width) {
+  const labels = STEPS.map((step) => tickLabel(from - (from % step), step));
+  return { at: from, part: 0, label: labels.find((label) => label.length * ROOM <= width) ?? '' };
+}
+
+// The last label is left out where it would run over the edge.
+export function ticksFor(picture, width) {
+  const step = STEPS.find((one) => haveRoom(picture, width, one));
+  const ticks = step === undefined ? [] : ticksBy(picture, step);
+  for (const tick of ticks) if (tick.part * width + tick.label.length * ROOM > width) tick.label = '';
+  return ticks.some((tick) => tick.label !== '') ? ticks : [beginTick(picture, width)];
+}
+
+export function showAxis(place, picture, width) {
+  const ticks = ticksFor(picture, width).map(({ part, label }) => {
     const tick = element('span', { class: 'tick', text: label });
-    const part = (at - window.from) / window.span();
     tick.style.left = `${100 * part}%`;
-    if (part * width > width - label.length * ROOM) tick.textContent = '';
     return tick;
   });
   place.replaceChildren(...ticks);

@@ -55,7 +55,7 @@ export function columnOf(picture, offset) {
 }
 
 // The offset in the middle of a column.
-export function offsetOf(picture, column) {
-  const span = picture.to - picture.from + 1;
-  return Math.floor(picture.from + ((column + 0.5) * span) / picture.columns);
+export function offsetOf({ begins, to }, column) {
+  const next = begins[column + 1] ?? to + 1;
+  return Math.floor((begins[column] + next - 1) / 2);
 }
