@@ -226,6 +226,23 @@ def case_a_name_is_only_a_name(page, folder):
     equal('images', page.browser.run('return document.images.length'), 0)
 
 
+def case_a_name_that_turns_round(page, folder):
+    """A name with a mark that would show `gpj.trc` as `crt.jpg`: it is seen to be there, wherever the name stands, and the file that is made is named."""
+    path = folder / 'rtl\u202egpj.trc'
+    path.write_bytes(rows(11))
+    (folder / 'turned\u202efolder').mkdir()
+    page.anew()
+    page.drop(path, sample('small.trc'), folder / 'turned\u202efolder')
+    page.until_done(2)
+    page.browser.until('return document.querySelectorAll("[data-test=link]").length === 2')
+    page.browser.run('document.querySelector("[data-test=open]").click()')
+    page.click('make-csv')
+    page.browser.until('return document.querySelector("[data-test=made]").textContent.includes("rows")')
+    equal('letters that turn round', page.browser.run('return document.body.innerText.includes("\\u202e")'), False)
+    for hook in ('open', 'links', 'made', 'make-house', 'notice'):
+        assert '\\u202E' in page.text(hook), (hook, page.text(hook))
+
+
 def case_by_keyboard_alone(page, folder):
     """From the top by the tabulator: every control is reached; the cursor moves, and its row is shown in the list; a row is found."""
     page.anew()

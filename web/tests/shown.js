@@ -2,6 +2,7 @@
 
 import { nameOf, withEnd } from './bytes.js';
 import { nearestColumn, nextColumn } from './cursor.js';
+import { shownName } from './names.js';
 import { inMs, percent, spanInWords } from './numbers.js';
 import { countsInWords, titleOf } from './overview.js';
 import { markNear, nextMark } from './picture_marks.js';
@@ -73,6 +74,7 @@ function trySpan(random) {
 }
 
 function tryWords() {
+  just(shownName('a b\u202egpj\x01\n\u00e9.trc'), 'a b\\u202Egpj\\x01\\x0A\u00e9.trc');
   just([percent(0, 0), percent(0, 3), percent(2, 3), percent(3, 3), percent(4, 3)], ['', '0 %', '66 %', '100 %', '100 %']);
   const states = ['accepted', 'refused', 'waiting', 'reading', 'accepted', 'stopped', 'failed'];
   just(countsInWords(states), '7 files: 1 waiting, 1 reading, 2 accepted, 1 refused, 1 failed, 1 stopped');

@@ -1,4 +1,5 @@
 import { element, button, newName } from './dom.js';
+import { shownName } from './names.js';
 import { outputName, outputTitle } from './outputs.js';
 
 // The files that can be kept of an accepted one.
@@ -59,7 +60,7 @@ export class Downloads {
 
   showNames() {
     const version = Number(this.version.select.value);
-    for (const what of WHATS) this.names[what].textContent = outputName(this.facts, what, version);
+    for (const what of WHATS) this.names[what].textContent = shownName(outputName(this.facts, what, version));
   }
 
   options() {
@@ -101,6 +102,6 @@ export class Downloads {
       return;
     }
     handOver(made);
-    this.tell(`${made.name}: ${made.said}`, false);
+    this.tell(`${shownName(made.name)}: ${made.said}`, false);
   }
 }

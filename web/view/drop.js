@@ -1,3 +1,5 @@
+import { shownName } from './names.js';
+
 // How files come: chosen, or dropped anywhere on the page.
 
 function foldersOf(items) {
@@ -11,7 +13,7 @@ function foldersOf(items) {
 
 function folderWords(folders) {
   if (folders.length === 0) return '';
-  const names = folders.join(', ');
+  const names = folders.map(shownName).join(', ');
   return folders.length === 1
     ? `${names} is a folder and no file. Drop the files that are in it.`
     : `${names} are folders and no files. Drop the files that are in them.`;

@@ -1,4 +1,5 @@
 import { element, setText } from './dom.js';
+import { shownName } from './names.js';
 import { counted } from './numbers.js';
 
 // All files at a glance: a line that counts them, a link to each where there are several, and the title of the window.
@@ -84,7 +85,7 @@ export class Overview {
 
   linkTo(section) {
     const state = element('span', { class: 'state' });
-    const anchor = element('a', { href: `#${section.element.id}`, text: section.file.name });
+    const anchor = element('a', { href: `#${section.element.id}`, text: shownName(section.file.name) });
     anchor.addEventListener('click', (event) => {
       event.preventDefault();
       section.visit();

@@ -1,4 +1,5 @@
 import { element, button, newName, setText } from './dom.js';
+import { shownName } from './names.js';
 import { sizeInWords, percent } from './numbers.js';
 
 // What always stands there of a file: its name, size and state, how far it has come, and what can be done with it.
@@ -9,11 +10,12 @@ export class SectionHead {
   constructor(file, on) {
     this.titleName = newName('title');
     this.bodyName = newName('body');
-    this.opener = button(file.name, on.open, { class: 'opener', id: this.titleName, test: 'open' });
+    const name = shownName(file.name);
+    this.opener = button(name, on.open, { class: 'opener', id: this.titleName, test: 'open' });
     this.opener.setAttribute('aria-controls', this.bodyName);
     this.state = element('strong', { class: 'state', test: 'state' });
     this.words = element('span', { class: 'short', test: 'short' });
-    this.bar = element('progress', { 'aria-label': `how far ${file.name} is read` });
+    this.bar = element('progress', { 'aria-label': `how far ${name} is read` });
     this.far = element('span', { test: 'progress' });
     this.going = element('div', { class: 'going' }, this.bar, this.far);
     this.stop = button('Stop', on.stop, { test: 'stop' });
