@@ -5,6 +5,7 @@ import time
 
 import big
 import check_desk
+import check_picture
 import check_requests
 from check_files import equal
 from files import rows
@@ -18,6 +19,7 @@ def cases(room):
     for name, case in named.items():
         yield name[5:].replace('_', ' '), lambda page, case=case: case(page, folder)
     yield from check_desk.cases(folder)
+    yield from check_picture.cases(folder)
     yield from check_requests.cases(folder)
 
 
