@@ -4,8 +4,12 @@ from pathlib import Path
 
 from said import KINDS
 
-# Where the page shows a cell of a row, and where `owl show --csv` has it.
-CELLS = ['row', None, 'stamp', 'offset_us', 'bus', 'kind', 'id', 'length', 'data', 'step_back']
+# Number and bytes of each line around a refused one, as they are seen.
+AROUND = '''return [...document.querySelectorAll('[data-test="around"] tr')].map((row) => {
+  const seen = row.cloneNode(true);
+  for (const one of seen.querySelectorAll(".unseen, .missing")) one.remove();
+  return [seen.querySelector("th").textContent, seen.querySelector("td").textContent];
+})'''
 
 
 def check_file(page, said, room):
@@ -78,15 +82,26 @@ def cells_of(row, line):
 
 
 def check_outputs(page, said, room):
-    for what, made in said.outputs().items():
-        name, bytes_ = page.download(f'make-{what}', room / f'{said.path.name}-{what}')
-        equal(f'{what}, whether it is made', name is None, made is None)
-        if made is not None:
-            equal(f'{what}, its bytes', bytes_, made)
+    outputs = said.outputs()
+    for what, made in outputs.items():
+        came, bytes_ = page.download(f'make-{what}', room / f'{said.path.name}-{what}')
+        equal(f'{what}, whether it is made', came is None, made is None)
+        if made is None:
+            continue
+        name, is_so = made
+        equal(f'{what}, its name', came, in_folder(name))
+        equal(f'{what}, its bytes', bytes_, is_so)
+        equal(f'{what}, what is said', page.text('made'), f'{name}: {said.counted(what)}')
+        assert name in page.text(f'make-{what}'), page.text(f'make-{what}')
     if said.bench is not None:
-        equal('ASCII export, by the bench program', said.outputs()['ascii'], said.bench)
+        equal('ASCII export, by the bench program', outputs['ascii'][1], said.bench)
     lines = said.crate if said.form == 'ascii' else said.crate.split(b'\r\n', 1)[1]
-    equal('ASCII export, by the Rust crate', said.outputs()['ascii'], lines)
+    equal('ASCII export, by the Rust crate', outputs['ascii'][1], lines)
+
+
+def in_folder(name):
+    """A name as the browser writes it, which has letters of its own for those that some systems can't have."""
+    return re.sub(r'[<>:"/\\|?*]', '_', name)
 
 
 def check_refusal(page, said):
@@ -102,8 +117,27 @@ def check_refusal(page, said):
         equal('refusal, by the bench program', said.bench.decode().strip(), first)
     if said.expected():
         check_marked(page, said, place)
+        check_around(page, said, place)
+    equal('lines around', page.is_there('around'), bool(said.expected()))
     for hook in ('make-ascii', 'make-house', 'make-csv', 'list'):
         assert not page.is_there(hook), f'a refused file has {hook}'
+
+
+def check_around(page, said, place):
+    """The lines around the refused one, each with its number, its bytes and its end. Of long lines a part is shown."""
+    shown = page.browser.run(AROUND)
+    lines = re.findall(rb'[^\n]*\n|[^\n]+\Z', said.path.read_bytes())
+    # A line that is missing stands behind the last one.
+    lines += [b''] * (place - len(lines))
+    first = max(1, place - 3)
+    equal('lines around', [number for number, _ in shown], [str(number) for number in range(first, min(len(lines), place + 3) + 1)])
+    for (number, text), line in zip(shown, lines[first - 1:]):
+        if len(line) <= 260:
+            equal(f'line {number}', text, ''.join(map(shown_byte, line)))
+
+
+def shown_byte(byte):
+    return {0: 'NUL', 9: 'TAB', 10: 'LF', 13: 'CR'}.get(byte) or (chr(byte) if 32 <= byte <= 126 else f'x{byte:02X}')
 
 
 def check_marked(page, said, place):

@@ -12,6 +12,15 @@ from files import rows
 from said import ROOT, Said, made, owl
 
 
+# What is told of how far a file has come, from its first moment on.
+FAR = '''window.far = [];
+new MutationObserver(() => {
+  const told = document.querySelector('[data-test="progress"]')?.textContent;
+  if (told && told !== window.far.at(-1)) window.far.push(told);
+}).observe(document.getElementById("files"), { subtree: true, childList: true, characterData: true });'''
+BARS = 'return [...document.querySelectorAll("progress")].filter((one) => one.checkVisibility()).length'
+
+
 def cases(room):
     folder = room / 'page'
     folder.mkdir()
@@ -184,6 +193,26 @@ def check_nothing_of(page, name):
     assert 'the file could not be read to its end' in text, text
 
 
+def case_how_far_it_has_come(page, folder):
+    """It is told while a file is read, and rises; behind that nothing is told any more, nor behind a file that was made."""
+    path = folder / 'big.trc'
+    big.write(path)
+    page.anew()
+    page.browser.run(FAR)
+    page.drop(path)
+    page.until_done(seconds=120)
+    told = page.browser.run('return window.far')
+    doing = list(dict.fromkeys(words.split(' ', 1)[0] for words in told))
+    equal('what is done', doing, ['waiting', 'reading', 'judging', 'looking'])
+    for word in ('reading', 'looking'):
+        parts = [int(words.split()[-2]) for words in told if words.startswith(word)]
+        assert parts == sorted(parts) and len(set(parts)) > 5, parts
+    equal('bars', page.browser.run(BARS), 0)
+    page.download('make-csv', folder / 'far')
+    page.browser.until('return document.querySelector("[data-test=made]").textContent.includes("rows")')
+    equal('bars', page.browser.run(BARS), 0)
+
+
 def case_the_other_form(page, folder):
     path = folder / 'a-trace.asc'
     path.write_bytes(sample('small.trc').read_bytes())
@@ -215,7 +244,7 @@ def case_the_channel(page, folder):
     page.until_done()
     page.browser.run('const choice = document.querySelector(\'[data-test="channel"]\'); choice.value = "7"; choice.dispatchEvent(new Event("change"))')
     _, lines = page.download('make-ascii', folder / 'channel')
-    equal('lines of channel 7', lines, made('convert', '--channel', '7', sample('version-11.trc')))
+    equal('lines of channel 7', lines, made('convert', '--channel', '7', sample('version-11.trc'))[1])
 
 
 def case_a_name_is_only_a_name(page, folder):

@@ -30,6 +30,27 @@ function add(name, given) { const made = Object.assign(document.createElement(na
 for (const one of tries) { try { Promise.resolve(one()).catch(() => {}); } catch {} }
 setTimeout(() => done(tries.length), 1500);'''
 
+# Ways to bring in another script or style, or another beginning of addresses; told are those that did something. They are tried a moment later, since what the
+# browser is asked to run at once is not under the policy.
+BROUGHT_IN = '''const done = arguments[0], did = [];
+const tries = {
+  eval: () => eval("did.push('eval')"),
+  function: () => new Function("did", "did.push('function')")(did),
+  script: () => add("script", { textContent: "document.documentElement.dataset.brought = 'script'" }),
+  handler: () => { document.body.setAttribute("onclick", "this.dataset.brought = 'handler'"); document.body.click(); },
+  address: () => add("iframe", { src: "javascript:parent.document.body.dataset.address = 'address'" }),
+  data: () => add("script", { src: "data:text/javascript,document.body.dataset.data='data'" }),
+  blob: () => add("script", { src: URL.createObjectURL(new Blob(["document.body.dataset.blob = 'blob'"])) }),
+  style: () => { add("style", { textContent: "main { outline-width: 17px }" }); if (getComputedStyle(document.querySelector("main")).outlineWidth === "17px") did.push("style"); },
+  attribute: () => { const made = add("p", {}); made.setAttribute("style", "opacity: 0.5"); if (getComputedStyle(made).opacity === "0.5") did.push("attribute"); },
+  base: () => { document.head.append(Object.assign(document.createElement("base"), { href: "http://elsewhere.invalid/" })); if (document.baseURI.includes("elsewhere")) did.push("base"); },
+};
+function add(name, given) { const made = Object.assign(document.createElement(name), given); document.body.append(made); return made; }
+setTimeout(() => {
+  for (const one of Object.values(tries)) { try { one(); } catch {} }
+  setTimeout(() => done([...did, ...Object.values(document.documentElement.dataset), ...Object.values(document.body.dataset)].filter((one) => one !== "yes").sort()), 500);
+});'''
+
 STORED = '''const done = arguments[0];
 const databases = indexedDB.databases ? indexedDB.databases().then((all) => all.length, () => 0) : Promise.resolve(0);
 databases.then((count) => done([localStorage.length, sessionStorage.length, document.cookie.length, count]));'''
@@ -38,6 +59,7 @@ databases.then((count) => done([localStorage.length, sessionStorage.length, docu
 def cases(folder):
     yield 'no request while files are read', no_request
     yield 'no request even if the script asked for one', lambda page: no_request_at_all(page, folder)
+    yield 'no script or style but its own', lambda page: nothing_brought_in(page, folder)
     yield 'nothing is stored', nothing_stored
 
 
@@ -72,13 +94,25 @@ def no_request_at_all(page, folder):
     page.anew()
     tried = page.browser.run_later(IN_PAGE, to)
     equal('requests that came', sorted(came), [])
-    # The same without the page's policy: then they do come, and what is tested here is the policy.
-    without = folder / 'without-policy.html'
-    without.write_text(re.sub('<meta http-equiv="Content-Security-Policy"[^>]*>', '', PAGE.read_text()))
-    page.browser.open(without.as_uri())
+    open_without_policy(page, folder)
     page.browser.run_later(IN_PAGE, to)
     assert len(came) >= tried // 2, f'without the policy only {came} came'
     server.shutdown()
+
+
+def open_without_policy(page, folder):
+    """The same page without its policy: then what is tried does come, and what is tested is the policy."""
+    without = folder / 'without-policy.html'
+    without.write_text(re.sub('<meta http-equiv="Content-Security-Policy"[^>]*>', '', PAGE.read_text()))
+    page.browser.open(without.as_uri())
+
+
+def nothing_brought_in(page, folder):
+    page.anew()
+    equal('what was brought in', page.browser.run_later(BROUGHT_IN), [])
+    open_without_policy(page, folder)
+    brought = page.browser.run_later(BROUGHT_IN)
+    assert len(brought) >= 9, f'without the policy only {brought}'
 
 
 def nothing_stored(page):

@@ -24,6 +24,7 @@ def good():
         'last-start.trc': b';$FILEVERSION=1.1\r\n;$STARTTIME=99999.9999999942\r\n1) 0.1 Rx 0001 1 01\r\n',
         'Name With Blanks & <b>.TRC': rows(11, b'1) 0.1 Rx 0001 1 01'),
         'many-ids.trc': rows(11, *[b'%d) %d.0 Rx %04X 1 %02X' % (i + 1, i, i % 700, i % 256) for i in range(2000)]),
+        'thousands.trc': rows(12, *[b'%d) %d.%03d 1 Rx %04X 2 %02X %02X' % (i + 1, i * 3 + i % 5, i % 1000, i % 9, i % 256, i // 256) for i in range(12_345)]),
         'one-frame.asc': FRAME,
         'empty.asc': b'',
         'exported.txt': FRAME + b'29.02.2000 12:00:01.5002 CANExt #2 | EXTENDED Tx 18ab0001 0\r\n',
@@ -53,6 +54,7 @@ def broken_heads():
         'start-comma.trc': b';$FILEVERSION=1.1\r\n;$STARTTIME=36585,5\r\n',
         'start-blank.trc': b';$FILEVERSION=1.1\r\n; $STARTTIME=36585.5\r\n',
         'dollar.trc': HEAD_12 + b';   $COLUMNS=N,O,T\r\n',
+        'A-ROW.TRC': b'1) 0.000 1 Rx 0123 0\r\n',
         'noise.bin': bytes(range(256)) * 40,
         'nuls.trc': bytes(5000),
     }
@@ -81,6 +83,7 @@ def broken_rows():
 
 def broken_ascii():
     return {
+        'HEADING.ASC': b'Date Time Bus\r\n' + FRAME,
         'heading.asc': b'Date Time Bus\r\n' + FRAME,
         'blank-before.asc': b' ' + FRAME,
         'blank-behind.asc': FRAME.replace(b'\r\n', b' \r\n'),

@@ -2,6 +2,7 @@
 
 import { judge } from './judge.js';
 import { libraryBytes } from './library_bytes.js';
+import { tryAnswers, tryUnread } from './recount_answers.js';
 import { recountFacts, recountFound, recountRows } from './recount_facts.js';
 import { recountEdges, recountPicture } from './recount_picture.js';
 import { goodText, recountRefusal, spoiled } from './recount_refusal.js';
@@ -29,6 +30,9 @@ async function recountOne(random, at) {
 
 async function recountAll(count, seed) {
   const random = randomFrom(seed);
+  const good = goodText(randomTrace(random, 3, 12));
+  await tryAnswers(recounted_module, good);
+  await tryUnread(recounted_module, good);
   for (let at = 0; at < count; at += 1) await recountOne(random, at);
   console.log(`${count} traces recounted`);
 }

@@ -2,6 +2,7 @@
 import csv
 import json
 import os
+import re
 import subprocess
 import tempfile
 from pathlib import Path
@@ -37,10 +38,21 @@ class Said:
         return {kind: counted.count(kind) for kind in KINDS}
 
     def outputs(self):
-        """The bytes of each file that can be made, or None where it is refused."""
+        """Name and bytes of each file that can be made, or None where it is refused. What owl does not make is named like what it makes."""
         if self.form == 'ascii':
-            return {'ascii': self.crate, 'house': made('back', self.path), 'csv': self.csv}
-        return {'ascii': made('convert', self.path), 'house': made('write', '--version', self.check['version'], self.path), 'csv': self.csv}
+            stem = re.sub(r'\.(asc|txt)$', '', self.path.name, flags=re.I)
+            return {'ascii': (f'{stem}-house.asc', self.crate), 'house': made('back', self.path), 'csv': (f'{stem}.csv', self.csv)}
+        stem = re.sub(r'\.trc$', '', self.path.name, flags=re.I)
+        house = made('write', '--version', self.check['version'], self.path)
+        return {'ascii': made('convert', self.path), 'house': house, 'csv': (f'{stem}.csv', self.csv)}
+
+    def counted(self, what):
+        """What is said of a file that was made."""
+        kinds, all_rows = self.kinds(), len(self.rows())
+        lines = kinds['Rx'] + kinds['Tx']
+        if what == 'ascii':
+            return f'{lines:,} line{"" if lines == 1 else "s"}, {all_rows - lines:,} left out'
+        return f'{all_rows:,} row{"" if all_rows == 1 else "s"}'
 
     def why(self):
         return self.named('', 2)
@@ -85,10 +97,11 @@ def bench(path):
 
 
 def made(command, *words):
+    """Name and bytes of the file that owl makes, or None where it makes none."""
     with tempfile.TemporaryDirectory() as folder:
         owl(command, *map(str, words), '-o', folder)
         files = os.listdir(folder)
-        return Path(folder, files[0]).read_bytes() if files else None
+        return (files[0], Path(folder, files[0]).read_bytes()) if files else None
 
 
 def build_programs():
