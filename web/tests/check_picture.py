@@ -1,4 +1,6 @@
 """The picture as it is drawn: the pixels of each strip and each mark, the cursor, and what hands do in it, held to the rows of a trace that is made here."""
+import re
+
 from check_files import equal
 from files import rows
 
@@ -20,6 +22,14 @@ const of = (name, lines, up) => {
   return all;
 };
 return [of(".strips", strips, 4), of(".marks", 2, 3)];'''
+# Presses the buttons fifty times in each direction at once; tells how often a picture was asked for.
+COUNTED = '''const done = arguments[0], post = Worker.prototype.postMessage;
+let count = 0;
+Worker.prototype.postMessage = function (said) { count += said.call === "picture"; return post.call(this, said); };
+const press = (name) => document.querySelector(`[data-test="${name}"]`).click();
+for (let turn = 0; turn < 50; turn += 1) press("zoom-in");
+for (let turn = 0; turn < 50; turn += 1) press("zoom-out");
+setTimeout(() => { Worker.prototype.postMessage = post; done(count); }, 1000);'''
 COLUMNS = 'return Math.floor(document.querySelector(".plot").clientWidth / 2)'
 CURSOR = '''const line = document.querySelector(".cursor"), plot = document.querySelector(".plot");
 return line.hidden ? -1 : Math.floor((line.getBoundingClientRect().left + 1 - plot.getBoundingClientRect().left) * arguments[0] / plot.clientWidth)'''
@@ -133,6 +143,30 @@ def case_a_part_of_it_is_drawn(page, all_rows):
 def until_shows(page, start, end):
     ms = lambda offset: f'{offset // 1000}.{offset % 1000:03} ms'
     page.browser.until('return document.querySelector("[data-test=shows]").textContent.startsWith(arguments[0])', f'{ms(start)} to {ms(end)}', seconds=5)
+
+
+def case_zoomed_faster_than_it_is_drawn(page, all_rows):
+    """Whatever is pressed while a picture is awaited, what is drawn in the end is what was wanted last, and what is said of it is true."""
+    counts = page.browser.run_later(COUNTED)
+    assert counts < 40, f'{counts} pictures were asked for'
+    start, end = ends(all_rows)
+    page.browser.until('return document.querySelector("[data-test=shows]").textContent.startsWith("the whole")')
+    check_drawn(page, all_rows, start, end)
+
+
+def case_zoomed_away_from_the_cursor(page, all_rows):
+    """Where the cursor is not to be seen, it is the middle that is zoomed to."""
+    keys(page, '\ue011')  # Home
+    told(page, 1)
+    keys(page, '+\ue00f\ue00f')  # Page down, twice
+    start, end = ends(all_rows)
+    size = (end - start + 1) // 2
+    until_shows(page, start + size, start + 2 * size - 1)
+    before = page.text('shows')
+    keys(page, '+')
+    page.browser.until('return document.querySelector("[data-test=shows]").textContent !== arguments[0]', before)
+    begin, last = [round(float(part) * 1000) for part in re.findall(r'([\d.]+) ms', page.text('shows'))[:2]]
+    assert abs((begin + last) / 2 - (start + 1.5 * size)) < 2, page.text('shows')
 
 
 def case_the_cursor_stands_where_its_row_is(page, all_rows):

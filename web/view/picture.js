@@ -21,7 +21,9 @@ export class Picture {
     this.window = new TimeWindow(facts.earliest.offset, facts.latest.offset);
     this.strips = Math.min(FIRST_STRIPS, facts.ids.length);
     this.picture = null;
-    this.asked = 0;
+    this.due = false;
+    this.awaited = false;
+    this.ended = false;
     this.parts = pictureParts(facts, {
       zoom: (factor) => this.zoom(factor),
       whole: () => this.whole(),
@@ -43,7 +45,7 @@ export class Picture {
   }
 
   end() {
-    this.asked = -1;
+    this.ended = true;
     this.watch.disconnect();
     this.unlook();
   }
@@ -61,14 +63,18 @@ export class Picture {
     this.later = setTimeout(() => this.ask(), 150);
   }
 
+  // One question at a time: while a picture is awaited, of all that is wanted meanwhile only the last matters.
   ask() {
-    if (this.asked < 0) return;
-    this.asked += 1;
-    const number = this.asked;
+    this.due = true;
+    if (this.awaited || this.ended) return;
+    this.awaited = true;
+    this.due = false;
     const { from, to } = this.window;
     const strips = this.strips;
     this.held.picture({ from, to, columns: this.columns(), strips }).then((picture) => {
-      if (number === this.asked) this.arrived(picture, strips);
+      this.awaited = false;
+      this.arrived(picture, strips);
+      if (this.due) this.ask();
     });
   }
 
@@ -77,8 +83,9 @@ export class Picture {
     this.drawn = strips;
     this.draw();
     this.cursor.placeIn(picture);
-    const { from, to } = this.window;
-    this.parts.shows.textContent = this.window.isWhole()
+    const { from, to } = picture;
+    const { earliest, latest } = this.facts;
+    this.parts.shows.textContent = from === earliest.offset && to === latest.offset
       ? `the whole trace, ${spanInWords(to - from)}`
       : `${inMs(from)} ms to ${inMs(to)} ms, ${spanInWords(to - from)}`;
   }
@@ -102,8 +109,8 @@ export class Picture {
   zoom(factor) {
     if (this.picture === null) return;
     const { row, column } = this.cursor;
-    const here = row !== null && this.window.holds(row.offset) ? row.offset : offsetOf(this.picture, Math.max(column, 0));
-    this.window.zoom(factor, here);
+    const offset = row === null ? offsetOf(this.picture, Math.max(column, 0)) : row.offset;
+    this.window.zoom(factor, this.window.holds(offset) ? offset : this.window.middle());
     this.ask();
   }
 

@@ -26,6 +26,10 @@ export class TimeWindow {
     return offset >= this.from && offset <= this.to;
   }
 
+  middle() {
+    return this.from + Math.floor((this.to - this.from) / 2);
+  }
+
   // A span that begins there, moved and cut so that it lies within the trace.
   set(from, span) {
     const all = this.latest - this.earliest + 1;
