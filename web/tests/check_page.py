@@ -4,6 +4,7 @@ import os
 import time
 
 import big
+import check_access
 import check_desk
 import check_picture
 import check_requests
@@ -27,9 +28,8 @@ def cases(room):
     named = {name: case for name, case in globals().items() if name.startswith('case_')}
     for name, case in named.items():
         yield name[5:].replace('_', ' '), lambda page, case=case: case(page, folder)
-    yield from check_desk.cases(folder)
-    yield from check_picture.cases(folder)
-    yield from check_requests.cases(folder)
+    for module in (check_desk, check_picture, check_access, check_requests):
+        yield from module.cases(folder)
 
 
 def sample(name):

@@ -13,6 +13,8 @@ class Page:
 
     def anew(self):
         self.browser.open(PAGE.as_uri())
+        # Behind another window nothing is laid out.
+        self.browser.cdp('Page.bringToFront')
         self.browser.until('return document.documentElement.dataset.ready === "yes"')
 
     def drop(self, *paths):
