@@ -109,6 +109,36 @@ def case_stopping_ends_the_worker(page, folder):
     until_workers(page, 0)
 
 
+def case_a_folder_is_no_file(page, folder):
+    (folder / 'a folder').mkdir(exist_ok=True)
+    page.anew()
+    page.drop(folder / 'a folder')
+    page.browser.until('return document.querySelector("[data-test=notice]").textContent.startsWith("a folder is a folder")')
+    equal('states', page.states(), [])
+    page.drop(folder / 'a folder', ROOT / 'samples/small.trc')
+    page.until_done()
+    equal('states', page.states(), [['small.trc', 'accepted']])
+    page.drop(ROOT / 'samples/small.trc')
+    page.until_done(2)
+    equal('notice', page.text('notice'), '')
+    page.drop()
+    equal('states', len(page.states()), 2)
+
+
+def case_read_again_in_the_form_that_was_chosen(page, folder):
+    big.write(folder / 'big.asc')
+    page.anew()
+    page.drop(folder / 'big.asc')
+    page.until_done()
+    equal('states', page.states(), [['big.asc', 'refused']])
+    press(page, 'read-other')
+    page.browser.until('return document.querySelector("[data-test=file]").dataset.state === "reading"')
+    press(page, 'stop')
+    press(page, 'again')
+    page.until_done(seconds=120)
+    equal('states', page.states(), [['big.asc', 'accepted']])
+
+
 def case_a_refused_file_has_no_worker(page, folder):
     page.anew()
     page.drop(ROOT / 'samples/wrong-row.trc', ROOT / 'samples/small.trc')

@@ -2,7 +2,7 @@
 import re
 from pathlib import Path
 
-from said import KINDS
+from said import KINDS, form_by_byte
 
 # Number and bytes of each line around a refused one, as they are seen.
 AROUND = '''return [...document.querySelectorAll('[data-test="around"] tr')].map((row) => {
@@ -119,6 +119,7 @@ def check_refusal(page, said):
         check_marked(page, said, place)
         check_around(page, said, place)
     equal('lines around', page.is_there('around'), bool(said.expected()))
+    equal('whether the other form is offered', page.is_there('read-other'), form_by_byte(said.path) != said.form)
     for hook in ('make-ascii', 'make-house', 'make-csv', 'list'):
         assert not page.is_there(hook), f'a refused file has {hook}'
 

@@ -17,6 +17,15 @@ def cases(room):
         yield name, lambda page, name=name, file=file: looks(page, name, file)
 
 
+def check_sheet(page):
+    """Nothing stands on paper that can only be pressed, typed into or scrolled."""
+    page.browser.cdp('Emulation.setEmulatedMedia', media='print')
+    left = page.browser.run('return [...document.querySelectorAll("button:not(.opener), input, select, progress, summary, .list, .help")]'
+                            '.filter((one) => one.checkVisibility()).map((one) => one.textContent || one.tagName)')
+    page.browser.cdp('Emulation.setEmulatedMedia', media='')
+    equal('on paper', left, [])
+
+
 def looks(page, name, file):
     page.anew()
     page.drop(ROOT / 'samples' / file)
@@ -33,6 +42,7 @@ def looks(page, name, file):
             time.sleep(0.4)
             page.browser.screenshot(SHOTS / f'{name}-{theme}-{size}.png')
         page.browser.size(*SIZES['wide'])
+        check_sheet(page)
         page.browser.printed(SHOTS / f'{name}-{theme}.pdf')
         pages = len(re.findall(rb'/Type\s*/Page\b(?!s)', (SHOTS / f'{name}-{theme}.pdf').read_bytes()))
         equal(f'{theme}: sheets', pages, 1)

@@ -6,6 +6,7 @@ import time
 import big
 import check_access
 import check_desk
+import check_list
 import check_picture
 import check_requests
 from check_files import equal
@@ -28,7 +29,7 @@ def cases(room):
     named = {name: case for name, case in globals().items() if name.startswith('case_')}
     for name, case in named.items():
         yield name[5:].replace('_', ' '), lambda page, case=case: case(page, folder)
-    for module in (check_desk, check_picture, check_access, check_requests):
+    for module in (check_desk, check_list, check_picture, check_access, check_requests):
         yield from module.cases(folder)
 
 

@@ -30,6 +30,11 @@ const press = (name) => document.querySelector(`[data-test="${name}"]`).click();
 for (let turn = 0; turn < 50; turn += 1) press("zoom-in");
 for (let turn = 0; turn < 50; turn += 1) press("zoom-out");
 setTimeout(() => { Worker.prototype.postMessage = post; done(count); }, 1000);'''
+# The colour of the last row's bar, at the right end, and that of the theme.
+INK = '''const canvas = document.querySelector(".strips");
+const [red, green, blue] = canvas.getContext("2d").getImageData(canvas.width - 1, Math.round(canvas.height / 5) - 4, 1, 1).data;
+const drawn = "#" + [red, green, blue].map((part) => part.toString(16).padStart(2, "0")).join("");
+const wanted = getComputedStyle(document.documentElement).getPropertyValue("--strip-ink").trim()'''
 COLUMNS = 'return Math.floor(document.querySelector(".plot").clientWidth / 2)'
 CURSOR = '''const line = document.querySelector(".cursor"), plot = document.querySelector(".plot");
 return line.hidden ? -1 : Math.floor((line.getBoundingClientRect().left + 1 - plot.getBoundingClientRect().left) * arguments[0] / plot.clientWidth)'''
@@ -114,6 +119,20 @@ def case_every_strip_and_mark_is_drawn(page, all_rows):
     for theme in ('dark', 'light'):
         page.browser.theme(theme)
         check_drawn(page, all_rows, *ends(all_rows))
+
+
+def case_its_colours_are_those_of_the_theme(page, all_rows):
+    """Of either theme, at once when it changes; and black while it is printed."""
+    try:
+        for theme in ('dark', 'light', 'dark'):
+            page.browser.theme(theme)
+            page.browser.until(f'{INK}; return drawn === wanted', seconds=5)
+            page.browser.run('dispatchEvent(new Event("beforeprint"))')
+            equal('on paper', page.browser.run(f'{INK}; return drawn'), '#000000')
+            page.browser.run('dispatchEvent(new Event("afterprint"))')
+            equal('behind the print', page.browser.run(f'{INK}; return drawn === wanted'), True)
+    finally:
+        page.browser.theme('light')
 
 
 def case_a_part_of_it_is_drawn(page, all_rows):

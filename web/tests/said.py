@@ -79,6 +79,10 @@ def form_of(path):
     ending = path.name.lower()[-4:]
     if ending in ('.trc', '.asc'):
         return 'ascii' if ending == '.asc' else 'trace'
+    return form_by_byte(path)
+
+
+def form_by_byte(path):
     with path.open('rb') as file:
         return 'ascii' if file.read(1).isdigit() else 'trace'
 
