@@ -74,6 +74,31 @@ def case_each_is_opened_and_closed(page, folder):
     page.browser.until('return document.title === "Bushingowl"')
 
 
+def case_the_keyboard_stays_with_what_is_shut(page, folder):
+    """A file that gives its memory back is shut, with the keyboard in it; then that is at its name. So where it is read as the other form."""
+    paths = several(folder, HELD + 1)
+    page.anew()
+    page.drop(*paths)
+    page.until_done(len(paths))
+    press(page, 'open')
+    page.browser.until(f'{OPEN}.length === 1')
+    page.browser.run('document.querySelector("[data-test=list]").focus()')
+    for at in range(1, len(paths)):
+        press(page, 'open', at)
+        page.browser.until(f'{OPEN}.includes(arguments[0])', paths[at].name)
+    equal('open', page.browser.run(OPEN), [path.name for path in paths[1:]])
+    equal('focus', page.browser.run('return document.activeElement.textContent'), paths[0].name)
+    big.write(folder / 'big.asc')
+    page.anew()
+    page.drop(folder / 'big.asc')
+    page.until_done()
+    page.browser.run('document.querySelector("[data-test=read-other]").focus()')
+    press(page, 'read-other')
+    equal('focus', page.browser.run(FOCUS), 'stop')
+    page.until_done(seconds=120)
+    equal('focus', page.browser.run(FOCUS), 'open')
+
+
 def case_wanted_before_it_is_read(page, folder):
     """A file that is asked for while it waits comes before the others, and is opened."""
     big.write(folder / 'big.trc')

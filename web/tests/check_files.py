@@ -42,8 +42,23 @@ def check_facts(page, said):
     equal('first step back', page.text('fact-first-step-back').split(',')[0], 'none' if back is None else f'row {back}')
     offsets = [int(row['offset_us']) for row in rows]
     equal('time covered', microseconds(page.text('fact-covered')), max(offsets) - min(offsets) if rows else None)
+    equal('IDs', page.text('fact-ids'), f'{len({row["id"] for row in rows if row["kind"][:2] in ("Rx", "Tx")}):,}')
+    check_small_facts(page, said, offsets)
     if said.bench is not None:
         assert not said.bench.startswith(b'refused'), said.bench
+
+
+def check_small_facts(page, said, offsets):
+    """What stands below the facts in small letters."""
+    rows = said.rows()
+    lines, backs = said.path.read_bytes().count(b'\n'), sum(row['step_back'] == '1' for row in rows)
+    told = [f'{lines:,} line{"" if lines == 1 else "s"}']
+    if rows:
+        stamps = [rows[offsets.index(end(offsets))]['stamp'] for end in (min, max)]
+        told += [f'numbers {rows[0]["row"]} to {rows[-1]["row"]}', ' to '.join(stamps)]
+    if backs:
+        told.append(f'{backs:,} step{"" if backs == 1 else "s"} back in all')
+    equal('small facts', page.browser.run('return [...document.querySelectorAll(".facts small")].map((one) => one.textContent)'), told)
 
 
 def microseconds(span):
