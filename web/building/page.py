@@ -9,9 +9,9 @@ from .modules import Wrong
 
 
 def assembled(web, made):
-    worker = bundled('worker.js', [web / 'work', made])
+    worker = bundled('worker.js', [web / 'work', web / 'both', made])
     (made / 'worker_source.js').write_text(f'export const workerSource = {in_script(json.dumps(worker))};\n')
-    script = bundled('main.js', [web / 'view', made])
+    script = bundled('main.js', [web / 'view', web / 'both', made])
     style = ''.join(file.read_text() for file in sorted((web / 'style').glob('*.css')))
     parts = {
         '<!--POLICY-->': f'<meta http-equiv="Content-Security-Policy" content="{policy(script, style)}">',

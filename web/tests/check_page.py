@@ -150,39 +150,31 @@ def case_removed_before_it_is_read(page, folder):
 
 
 def case_cut_off_while_it_is_read(page, folder):
-    """Half a file is never taken for a whole one: it is read whole, or that it could not be read is said."""
-    for attempt in range(6):
-        path = folder / 'cut.trc'
-        big.write(path)
-        page.anew()
-        page.drop(path)
-        time.sleep(0.03 * attempt)
-        os.truncate(path, path.stat().st_size // 2)
-        page.until_done(seconds=120)
-        [[_, state]] = page.states()
-        if state == 'failed':
-            check_nothing_of(page, 'cut.trc')
-            return
-        equal('state', state, 'accepted')
-        equal('rows', page.text('fact-rows'), f'{big.ROWS:,}')
-    raise AssertionError('it was read before it could be cut off, six times')
+    check_meanwhile(page, folder / 'cut.trc', lambda path: os.truncate(path, path.stat().st_size // 2))
 
 
 def case_removed_while_it_is_read(page, folder):
-    for attempt in range(4):
-        path = folder / 'removed.trc'
+    check_meanwhile(page, folder / 'removed.trc', os.unlink)
+
+
+def check_meanwhile(page, path, deed):
+    """Half a file is never taken for a whole one: whatever is done to it while it is read, it is read whole, or that it could not be is said."""
+    seen = set()
+    for attempt in range(5):
         big.write(path)
         page.anew()
         page.drop(path)
-        time.sleep(0.05 * attempt)
-        path.unlink()
+        time.sleep(0.04 * attempt)
+        deed(path)
         page.until_done(seconds=120)
         [[_, state]] = page.states()
-        assert state in ('failed', 'accepted'), state
-        if state == 'accepted':
-            equal('rows', page.text('fact-rows'), f'{big.ROWS:,}')
+        seen.add(state)
+        if state == 'failed':
+            check_nothing_of(page, path.name)
         else:
-            check_nothing_of(page, 'removed.trc')
+            equal('state', state, 'accepted')
+            equal('rows', page.text('fact-rows'), f'{big.ROWS:,}')
+    assert 'failed' in seen, 'it was read each time before anything was done to it'
 
 
 def check_nothing_of(page, name):

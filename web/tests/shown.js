@@ -3,7 +3,8 @@
 import { nameOf, withEnd } from './bytes.js';
 import { nearestColumn, nextColumn } from './cursor.js';
 import { shownName } from './names.js';
-import { inMs, percent, spanInWords } from './numbers.js';
+import { milliseconds } from './digits.js';
+import { percent, spanInWords } from './numbers.js';
 import { countsInWords, titleOf } from './overview.js';
 import { markNear, nextMark } from './picture_marks.js';
 import { TimeWindow, columnOf, offsetOf } from './picture_window.js';
@@ -70,7 +71,7 @@ function trySpan(random) {
   const of = (unit) => Number(new RegExp(`([\\d,.]+) ${unit}\\b`).exec(spanInWords(span))?.[1].replaceAll(',', '') ?? 0);
   const ms = of('d') * DAY_MS + of('h') * 3600000 + of('min') * 60000;
   just(Math.round((ms + of('s') * 1000 + of('ms')) * 1000), span);
-  just(Number(inMs(span).replace('.', '')), span);
+  just(Number(milliseconds(span).replace('.', '')), span);
 }
 
 function tryWords() {

@@ -1,3 +1,5 @@
+// What is shown of an accepted file.
+
 import { element } from './dom.js';
 import { Asked } from './asked.js';
 import { factsOf, kindsOf } from './facts.js';
@@ -5,8 +7,6 @@ import { Downloads } from './downloads.js';
 import { Picture } from './picture.js';
 import { RowList } from './list.js';
 import { Search } from './search.js';
-
-// What is shown of an accepted file.
 
 export class AcceptedBody {
   constructor(held, facts, failed) {

@@ -1,13 +1,14 @@
-import { element } from './dom.js';
-
 // Bytes of a line, each of them to be seen: printable ones as they are, all others by a name in a box.
+
+import { hexadecimal } from './digits.js';
+import { element } from './dom.js';
 
 const NAMED = { 0: 'NUL', 9: 'TAB', 10: 'LF', 13: 'CR' };
 const ENDS = { 'CR LF': [13, 10], LF: [10], CR: [13], '': [] };
 
 export function nameOf(byte) {
   if (byte in NAMED) return NAMED[byte];
-  if (byte < 32 || byte > 126) return `x${byte.toString(16).toUpperCase().padStart(2, '0')}`;
+  if (byte < 32 || byte > 126) return `x${hexadecimal(byte, 2)}`;
   return null;
 }
 

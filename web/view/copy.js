@@ -1,7 +1,7 @@
-import { rowText } from './row_cells.js';
-
 // Rows that are copied come with a tab between two cells. Without marked text it is the selected row; a part of one row
 // is copied as it is.
+
+import { rowText } from './row_cells.js';
 
 function markedRows(list, selection) {
   return [...list.querySelectorAll('.row')]

@@ -1,8 +1,8 @@
-import { setText } from './dom.js';
-import { inMs } from './numbers.js';
-import { columnOf } from './picture_window.js';
-
 // The picture's cursor, which always stands on a row, and what it tells of that row.
+
+import { setText } from './dom.js';
+import { milliseconds } from './digits.js';
+import { columnOf } from './picture_window.js';
 
 export function nearestColumn(first, column) {
   for (let away = 0; away < first.length; away += 1) {
@@ -23,7 +23,7 @@ export function rowInWords(row) {
   const id = row.id === '' ? '' : ` ${row.id}`;
   const data = row.data === '' ? '' : `: ${row.data}`;
   const back = row.stepBack ? ', steps back' : '';
-  const where = `Row ${row.number}, line ${row.line}, at ${inMs(row.offset)} ms, ${row.stamp}`;
+  const where = `Row ${row.number}, line ${row.line}, at ${milliseconds(row.offset)} ms, ${row.stamp}`;
   return `${where}${bus}, ${row.kind}${id}, length ${row.length}${data}${back}`;
 }
 
@@ -87,6 +87,6 @@ export class Cursor {
   tell() {
     setText(this.told, rowInWords(this.row));
     this.plot.setAttribute('aria-valuenow', String(this.index));
-    this.plot.setAttribute('aria-valuetext', `${inMs(this.row.offset)} ms`);
+    this.plot.setAttribute('aria-valuetext', `${milliseconds(this.row.offset)} ms`);
   }
 }

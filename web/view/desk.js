@@ -1,7 +1,7 @@
+// The files on the desk: who is read next, and whose worker is kept.
+
 import { FileSection } from './section.js';
 import { toLetGo } from './holding.js';
-
-// The files on the desk: who is read next, and whose worker is kept.
 
 const AT_WORK = 2;
 

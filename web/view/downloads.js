@@ -1,8 +1,8 @@
+// The files that can be kept of an accepted one.
+
 import { element, button, newName } from './dom.js';
 import { shownName } from './names.js';
 import { outputName, outputTitle } from './outputs.js';
-
-// The files that can be kept of an accepted one.
 
 const WHATS = ['ascii', 'house', 'csv'];
 const REVOKED_AFTER = 60000;

@@ -1,6 +1,6 @@
-import { shownName } from './names.js';
-
 // How files come: chosen, or dropped anywhere on the page.
+
+import { shownName } from './names.js';
 
 function foldersOf(items) {
   const folders = [];

@@ -1,7 +1,8 @@
-import { element, button } from './dom.js';
-import { grouped, counted, spanInWords } from './numbers.js';
-
 // The facts of an accepted file, and its rows counted by kind.
+
+import { element, button } from './dom.js';
+import { separated, counted } from './digits.js';
+import { spanInWords } from './numbers.js';
 
 function fact(name, value, test, ...behind) {
   const text = element('span', { text: value, test });
@@ -46,17 +47,17 @@ export function factsOf(facts, show) {
     { class: 'facts' },
     fact(facts.form === 'ascii' ? 'Form' : 'Version', versionIn(facts), 'fact-version', lines),
     fact('Start', facts.start, 'fact-start'),
-    fact('Rows', grouped(facts.rows), 'fact-rows', ...numbersIn(facts)),
+    fact('Rows', separated(facts.rows), 'fact-rows', ...numbersIn(facts)),
     coveredIn(facts),
     stepBackIn(facts, show),
-    fact('IDs', grouped(idsIn(facts)), 'fact-ids'),
+    fact('IDs', separated(idsIn(facts)), 'fact-ids'),
   );
 }
 
 export function kindsOf(facts) {
   const heads = facts.kinds.map(({ kind }) => element('th', { scope: 'col', text: kind }));
   const counts = facts.kinds.map(({ kind, count }) =>
-    element('td', { text: grouped(count), test: `kind-${kind.replace(' ', '-')}` }),
+    element('td', { text: separated(count), test: `kind-${kind.replace(' ', '-')}` }),
   );
   return element(
     'table',

@@ -1,10 +1,10 @@
+// The list of all rows. Only those that can be seen are there, and some above and below.
+
 import { element } from './dom.js';
 import { Scroll } from './scroll.js';
 import { RowCache } from './row_cache.js';
 import { headOfList, rowElement, fillRow, setWidths } from './row_cells.js';
 import { listenToList } from './list_hands.js';
-
-// The list of all rows. Only those that can be seen are there, and some above and below.
 
 const VISIBLE = 18;
 const AROUND = 8;

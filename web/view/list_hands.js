@@ -1,6 +1,6 @@
-import { onCopy } from './copy.js';
-
 // What the keyboard, the wheel and the mouse do in the list: always by whole rows, however long it is.
+
+import { onCopy } from './copy.js';
 
 function onKey(event, list) {
   if (event.ctrlKey || event.altKey || event.metaKey) return;

@@ -1,3 +1,5 @@
+// The page begins: files come, stand on the desk, and are told of in the overview.
+
 import { takeFiles } from './drop.js';
 import { watchLook } from './look.js';
 import { Overview } from './overview.js';

@@ -1,8 +1,8 @@
+// All files at a glance: a line that counts them, a link to each where there are several, and the title of the window.
+
 import { element, setText } from './dom.js';
 import { shownName } from './names.js';
-import { counted } from './numbers.js';
-
-// All files at a glance: a line that counts them, a link to each where there are several, and the title of the window.
+import { counted } from './digits.js';
 
 const TOLD_AFTER = 40;
 const IN_WORDS = ['waiting', 'reading', 'accepted', 'refused', 'failed', 'stopped'];

@@ -1,3 +1,5 @@
+// The picture of a trace: time across, a strip for each ID.
+
 import { onLook } from './look.js';
 import { pictureParts, showNames, FIRST_STRIPS } from './picture_parts.js';
 import { TimeWindow, offsetOf } from './picture_window.js';
@@ -6,9 +8,8 @@ import { drawStrips } from './picture_strips.js';
 import { drawMarks, nextMark } from './picture_marks.js';
 import { listenToPlot } from './picture_hands.js';
 import { Cursor, nearestColumn, nextColumn } from './cursor.js';
-import { spanInWords, inMs } from './numbers.js';
-
-// The picture of a trace: time across, a strip for each ID.
+import { milliseconds } from './digits.js';
+import { spanInWords } from './numbers.js';
 
 const COLUMN = 2;
 const PAPER_WIDTH = 520;
@@ -87,7 +88,7 @@ export class Picture {
     const { earliest, latest } = this.facts;
     this.parts.shows.textContent = from === earliest.offset && to === latest.offset
       ? `the whole trace, ${spanInWords(to - from)}`
-      : `${inMs(from)} ms to ${inMs(to)} ms, ${spanInWords(to - from)}`;
+      : `${milliseconds(from)} ms to ${milliseconds(to)} ms, ${spanInWords(to - from)}`;
   }
 
   draw() {

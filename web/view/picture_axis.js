@@ -1,7 +1,7 @@
-import { element } from './dom.js';
-import { grouped } from './numbers.js';
-
 // The time axis: as many ticks as their labels have room for.
+
+import { element } from './dom.js';
+import { separated } from './digits.js';
 
 const UNITS = [
   { name: 'd', size: 86400000000 },
@@ -34,7 +34,7 @@ function decimals(step, unit) {
 
 function withPoint(offset, step, unit) {
   const [whole, part] = (offset / unit.size).toFixed(decimals(step, unit.size)).split('.');
-  return `${grouped(whole)}${part ? `.${part}` : ''} ${unit.name}`;
+  return `${separated(whole)}${part ? `.${part}` : ''} ${unit.name}`;
 }
 
 // From a second on in whole units, the smallest of them that the step has.

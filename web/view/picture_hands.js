@@ -1,7 +1,7 @@
+// What the keyboard, the mouse and a finger do in the picture.
+
 import { nearestColumn } from './cursor.js';
 import { markNear } from './picture_marks.js';
-
-// What the keyboard, the mouse and a finger do in the picture.
 
 const REACH = 4;
 

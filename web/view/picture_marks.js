@@ -1,7 +1,7 @@
-import { cleared, colour } from './look.js';
-
 // The marks above the strips, a lane for each: steps back as triangles that point back, error frames as crosses.
 // Every marked column has a line; the shapes stand where there is room for them.
+
+import { cleared, colour } from './look.js';
 
 const APART = 11;
 const HALF = 5;

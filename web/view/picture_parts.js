@@ -1,7 +1,7 @@
-import { element, button, newName } from './dom.js';
-import { grouped, counted } from './numbers.js';
-
 // What the picture is made of: its buttons, the names at the left, the plot, and the lines below.
+
+import { element, button, newName } from './dom.js';
+import { separated, counted } from './digits.js';
 
 export const FIRST_STRIPS = 24;
 
@@ -47,7 +47,7 @@ function plotOf(facts, parts, help) {
 
 function laneName(shape, name, count) {
   const text = element('span', { class: 'id', text: `${shape} ${name}` });
-  return element('li', { class: 'lane' }, text, element('span', { class: 'count', text: grouped(count) }));
+  return element('li', { class: 'lane' }, text, element('span', { class: 'count', text: separated(count) }));
 }
 
 function errorsIn(facts) {
@@ -86,7 +86,7 @@ export function pictureParts(facts, on) {
 
 function nameOfStrip({ name, count }) {
   const id = element('span', { class: 'id', text: name });
-  return element('li', {}, id, ' ', element('span', { class: 'count', text: grouped(count) }));
+  return element('li', {}, id, ' ', element('span', { class: 'count', text: separated(count) }));
 }
 
 function moreButtons(facts, strips, more) {
@@ -103,7 +103,7 @@ export function showNames(parts, facts, strips) {
   const focused = parts.more.contains(document.activeElement);
   parts.names.replaceChildren(...facts.ids.slice(0, strips).map(nameOfStrip));
   parts.element.style.setProperty('--strips', String(strips));
-  const said = `${grouped(strips)} of ${counted(facts.idCount, 'strip', 'strips')}, the most frequent first`;
+  const said = `${separated(strips)} of ${counted(facts.idCount, 'strip', 'strips')}, the most frequent first`;
   const buttons = moreButtons(facts, strips, parts.on.more);
   parts.more.replaceChildren(element('span', { text: said }), ...buttons);
   if (focused && buttons.length > 0) buttons[0].focus({ preventScroll: true });

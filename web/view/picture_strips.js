@@ -1,6 +1,6 @@
-import { cleared, colour } from './look.js';
-
 // The strips: for each ID, how many rows each column has, to its own most. A single row is well seen too.
+
+import { cleared, colour } from './look.js';
 
 const LEAST = 0.35;
 const MANY = 96;

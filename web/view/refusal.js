@@ -1,8 +1,8 @@
-import { element, button, unseen } from './dom.js';
-import { counted } from './numbers.js';
-import { shownBytes, withEnd } from './bytes.js';
-
 // What is shown of a refused file. Nothing of it can be kept.
+
+import { element, button, unseen } from './dom.js';
+import { counted } from './digits.js';
+import { shownBytes, withEnd } from './bytes.js';
 
 // Where something is missing there is nothing to mark, and a caret stands in its place.
 function markOf(bytes) {

@@ -1,13 +1,13 @@
-import { element, newName } from './dom.js';
-import { inMs } from './numbers.js';
-
 // The columns of the list, and a row of it.
+
+import { element, newName } from './dom.js';
+import { milliseconds } from './digits.js';
 
 const CELLS = [
   { name: 'Row', class: 'number', of: (row) => String(row.number) },
   { name: 'Line', class: 'number', of: (row) => String(row.line) },
   { name: 'Date and time', class: 'stamp', of: (row) => row.stamp },
-  { name: 'Offset, ms', class: 'offset', of: (row) => inMs(row.offset) },
+  { name: 'Offset, ms', class: 'offset', of: (row) => milliseconds(row.offset) },
   { name: 'Bus', class: 'bus', of: (row) => (row.bus === 0 ? '' : String(row.bus)) },
   { name: 'Kind', class: 'kind', of: (row) => row.kind },
   { name: 'ID', class: 'row-id', of: (row) => row.id },
@@ -19,7 +19,7 @@ const CELLS = [
 // Lines and offsets have as much room as the longest of this file.
 export function setWidths(list, facts) {
   const line = Math.max(4, String(facts.lines).length);
-  const offset = Math.max(10, inMs(facts.latest.offset).length);
+  const offset = Math.max(10, milliseconds(facts.latest.offset).length);
   list.style.setProperty('--line-digits', `${line}ch`);
   list.style.setProperty('--offset-digits', `${offset}ch`);
 }

@@ -1,6 +1,6 @@
-import { element, button, newName } from './dom.js';
-
 // Search by ID and by line. What was found is selected in the list.
+
+import { element, button, newName } from './dom.js';
 
 function field(label, parts) {
   const name = newName('field');

@@ -1,10 +1,10 @@
+// One file on the desk: its state, and what is shown of it. The body is there only while it is open.
+
 import { openFile } from './file.js';
 import { element, newName } from './dom.js';
 import { SectionHead } from './section_head.js';
 import { AcceptedBody } from './accepted.js';
 import { RefusedBody } from './refusal.js';
-
-// One file on the desk: its state, and what is shown of it. The body is there only while it is open.
 
 export class FileSection {
   constructor(file, wanted, desk) {

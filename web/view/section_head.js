@@ -1,8 +1,8 @@
+// What always stands there of a file: its name, size and state, how far it has come, and what can be done with it.
+
 import { element, button, newName, setText } from './dom.js';
 import { shownName } from './names.js';
 import { sizeInWords, percent } from './numbers.js';
-
-// What always stands there of a file: its name, size and state, how far it has come, and what can be done with it.
 
 const DOING = { waiting: 'waiting', reading: 'reading', judging: 'judging', looking: 'looking at the rows' };
 

@@ -1,12 +1,12 @@
 // What of a record a version can't carry.
 
 import { carried_bus, carried_no_bus, carried_offset } from './words.js';
+import { milliseconds } from './digits.js';
 import { versionName } from './version.js';
 
 export function carriedWords(number, { bus, offset }) {
   const version = versionName(number);
   if (number === 12) return carried_no_bus({ version });
   if (bus !== 0) return carried_bus({ version, bus });
-  const fraction = String(offset % 1000).padStart(3, '0');
-  return carried_offset({ version, offset: `${Math.floor(offset / 1000)}.${fraction}` });
+  return carried_offset({ version, offset: milliseconds(offset) });
 }

@@ -5,7 +5,8 @@ import { long, long_expected, start_expected, start_good, start_missing, start_n
 import { version_byte_order_mark, version_empty, version_expected, version_good, version_none } from './words.js';
 import { version_utf_16, version_wrong } from './words.js';
 import { LINE_LIMIT, latin1 } from './line.js';
-import { quoted, separated } from './quoted.js';
+import { separated } from './digits.js';
+import { quoted } from './quoted.js';
 
 // How line 1 and line 2 begin.
 const VERSION_LINE = ';$FILEVERSION=';

@@ -6,7 +6,7 @@ import { Library, partOf } from './library.js';
 import { refusalWords } from './refusal.js';
 import { Pen } from './pen.js';
 import { CSV_HEAD, MOST_CSV, putCsvRow } from './row.js';
-import { separated } from './quoted.js';
+import { counted, separated } from './digits.js';
 
 // The rows of comma separated values that are put together at a time.
 const PIECE = 5000;
@@ -21,7 +21,7 @@ function makeAscii(held, channel) {
   const { library, records, out } = roomToMake(held, held.rows * MOST_LINE);
   const answer = library.export(held.start, channel ?? CHANNEL_AS_BUS, records, out);
   if (answer.number !== 0) return { refused: refusalWords(answer.number, answer.place), why: null };
-  return { name: held.names.ascii, blob: blobOf(library, out, answer.bytes), said: `${many(answer.lines, 'line')}, ${separated(answer.leftOut)} left out` };
+  return { name: held.names.ascii, blob: blobOf(library, out, answer.bytes), said: `${counted(answer.lines, 'line', 'lines')}, ${separated(answer.leftOut)} left out` };
 }
 
 function makeHouse(held, version) {
@@ -31,7 +31,7 @@ function makeHouse(held, version) {
     const why = answer.number === 24 ? carriedWords(version, held.record(answer.place - 1)) : null;
     return { refused: refusalWords(answer.number, answer.place), why };
   }
-  return { name: held.names.house[version], blob: blobOf(library, out, answer.bytes), said: many(held.rows, 'row') };
+  return { name: held.names.house[version], blob: blobOf(library, out, answer.bytes), said: counted(held.rows, 'row', 'rows') };
 }
 
 function makeCsv(held, progress) {
@@ -46,7 +46,7 @@ function makeCsv(held, progress) {
     }
   }
   pieces.push(pen.take());
-  return { name: held.names.csv, blob: new Blob(pieces, { type: 'text/csv' }), said: many(held.rows, 'row') };
+  return { name: held.names.csv, blob: new Blob(pieces, { type: 'text/csv' }), said: counted(held.rows, 'row', 'rows') };
 }
 
 // An instance of its own, whose memory goes with it.
@@ -58,8 +58,4 @@ function roomToMake(held, length) {
 
 function blobOf(library, out, bytes) {
   return new Blob([library.bytes(partOf(out, 0, bytes))], { type: 'application/octet-stream' });
-}
-
-function many(number, one) {
-  return `${separated(number)} ${one}${number === 1 ? '' : 's'}`;
 }

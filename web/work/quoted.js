@@ -1,5 +1,7 @@
 // Bytes as they are shown in words.
 
+import { hexadecimal } from './digits.js';
+
 // The most bytes that are shown.
 const QUOTED = 40;
 
@@ -7,13 +9,4 @@ const QUOTED = 40;
 export function quoted(letters) {
   const shown = letters.slice(0, QUOTED).replace(/[^ !#-[\]-~]/g, (letter) => `\\x${hexadecimal(letter.charCodeAt(0), 2)}`);
   return `"${shown}"${letters.length > QUOTED ? '...' : ''}`;
-}
-
-export function hexadecimal(number, digits) {
-  return number.toString(16).toUpperCase().padStart(digits, '0');
-}
-
-// With its thousands separated.
-export function separated(number) {
-  return String(number).replace(/\B(?=(\d{3})+$)/g, ',');
 }

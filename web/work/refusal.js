@@ -12,7 +12,7 @@ import { explainHead } from './explain_head.js';
 import { explainRow } from './explain_row.js';
 import { partOf } from './library.js';
 import { LINE_LIMIT, beforeEnd, endOf, lineBegin, lineEnd, withoutEnd } from './line.js';
-import { separated } from './quoted.js';
+import { separated } from './digits.js';
 
 const REFUSALS = {
   1: refusal_1,

@@ -1,7 +1,7 @@
 // One record as it is shown, and as a line of comma separated values, as owl shows it.
 
 import { REMOTE_RECEIVED, REMOTE_SENT, WARNING } from './limits.js';
-import { hexadecimal } from './quoted.js';
+import { hexadecimal } from './digits.js';
 
 // The kinds of a record, by their numbers.
 export const KINDS = ['Rx', 'Tx', 'Rx RTR', 'Tx RTR', 'Warng', 'Error'];
