@@ -11,10 +11,16 @@ PRESSED = 24
 OUTLINE = 2
 
 # The least contrast of the texts of each kind of element.
-CONTRASTS = '''const light = (colour) => colour.slice(0, 3).map((part) => part / 255).map((part) => (part <= 0.03928 ? part / 12.92 : ((part + 0.055) / 1.055) ** 2.4))
-  .reduce((sum, part, at) => sum + part * [0.2126, 0.7152, 0.0722][at], 0);
+CONTRASTS = '''const linear = (part) => (part <= 0.03928 ? part / 12.92 : ((part + 0.055) / 1.055) ** 2.4);
+const light = ([red, green, blue]) => 0.2126 * linear(red / 255) + 0.7152 * linear(green / 255) + 0.0722 * linear(blue / 255);
 const parsed = (colour) => colour.match(/[\\d.]+/g).map(Number);
-const behind = (one) => { for (; one; one = one.parentElement) { const colour = parsed(getComputedStyle(one).backgroundColor); if (colour[3] !== 0) return colour; } return [255, 255, 255]; };
+const behind = (one) => {
+  for (; one; one = one.parentElement) {
+    const colour = parsed(getComputedStyle(one).backgroundColor);
+    if (colour[3] !== 0) return colour;
+  }
+  return [255, 255, 255];
+};
 const least = {}, texts = document.createTreeWalker(document.body, NodeFilter.SHOW_TEXT);
 while (texts.nextNode()) {
   const one = texts.currentNode.parentElement;
@@ -28,8 +34,8 @@ SMALL = '''return [...document.querySelectorAll("button, a, select, input, summa
 FOCUSED = '''const one = document.activeElement;
 if (one === document.body) return null;
 const shows = (style) => style.outlineStyle !== "none" && parseFloat(style.outlineWidth) >= arguments[0];
-const box = one.getBoundingClientRect(), drop = one.closest(".drop");
-return [one.dataset.test ?? one.textContent, shows(getComputedStyle(one)) || Boolean(drop && shows(getComputedStyle(drop))), box.bottom > 0 && box.top < innerHeight]'''
+const box = one.getBoundingClientRect(), around = one.closest(".drop") ?? one;
+return [one.dataset.test ?? one.textContent, shows(getComputedStyle(around)), box.bottom > 0 && box.top < innerHeight]'''
 OVER = 'return document.documentElement.scrollWidth - document.documentElement.clientWidth'
 LABELS = '''const axis = document.querySelector(".axis").getBoundingClientRect();
 return [...document.querySelectorAll(".tick")].filter((tick) => tick.textContent !== "")

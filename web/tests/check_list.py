@@ -8,6 +8,9 @@ SELECTED = 'return Number(document.querySelector(\'[data-test="row"][aria-select
 IN_VIEW = '''const list = document.querySelector('[data-test="list"]').getBoundingClientRect(), head = document.querySelector(".list-head").getBoundingClientRect();
 const row = document.querySelector('[data-test="row"][aria-selected="true"]').getBoundingClientRect();
 return row.top >= head.bottom - 1 && row.bottom <= list.bottom'''
+# How many whole rows have room below the heads.
+VISIBLE = '''const row = document.querySelector(".row").offsetHeight;
+return Math.floor((document.querySelector('[data-test="list"]').clientHeight - row) / row)'''
 ACTIVE = '''const list = document.querySelector('[data-test="list"]');
 return document.getElementById(list.getAttribute("aria-activedescendant"))?.getAttribute("aria-selected") === "true"'''
 COPIED = '''const event = new ClipboardEvent("copy", { clipboardData: new DataTransfer(), bubbles: true, cancelable: true });
@@ -45,7 +48,7 @@ def case_the_list_by_keys(page):
     for key, number in ((DOWN, 1), (DOWN, 2), (DOWN, 3), (UP, 2), (UP, 1), (UP, 1), (END, ROWS), (DOWN, ROWS), (UP, ROWS - 1), (HOME, 1)):
         page.browser.keys(key)
         until_selected(page, number)
-    visible = page.browser.run('return Math.floor((document.querySelector("[data-test=list]").clientHeight - document.querySelector(".row").offsetHeight) / document.querySelector(".row").offsetHeight)')
+    visible = page.browser.run(VISIBLE)
     for key, number in ((PAGE_DOWN, 1 + visible), (PAGE_DOWN, 1 + 2 * visible), (PAGE_UP, 1 + visible), (PAGE_UP, 1), (PAGE_UP, 1)):
         page.browser.keys(key)
         until_selected(page, number)
@@ -82,7 +85,8 @@ def case_found_by_its_id(page):
         page.click(f'find-{way}')
         page.browser.until('return document.querySelector("[data-test=find-said]").textContent === arguments[0]', f'row {number}, line {number + 2}{more}', seconds=5)
         until_selected(page, number)
-    for text, words in (('0333', 'no row has the ID 0333'), ('Error', 'no row has the ID Error'), ('xyz', 'an ID is one to eight'), ('', 'an ID is one to eight')):
+    steps = [('0333', 'no row has the ID 0333'), ('Error', 'no row has the ID Error'), ('xyz', 'an ID is one to eight'), ('', 'an ID is one to eight')]
+    for text, words in steps:
         page.enter('find-id', text)
         page.click('find-next')
         page.browser.until('return document.querySelector("[data-test=find-said]").textContent.startsWith(arguments[0])', words, seconds=5)
@@ -90,7 +94,9 @@ def case_found_by_its_id(page):
 
 
 def case_found_by_its_line(page):
-    for text, words in (('1', 'line 1 is no row; the next one is row 1 on line 3'), ('302', 'line 302 is row 300'), ('303', 'the file has lines 1 to 302'), ('0', 'a line is a number'), ('x', 'a line is a number')):
+    steps = [('1', 'line 1 is no row; the next one is row 1 on line 3'), ('302', 'line 302 is row 300'), ('303', 'the file has lines 1 to 302'),
+             ('0', 'a line is a number'), ('x', 'a line is a number')]
+    for text, words in steps:
         page.enter('find-line', text)
         page.click('find-go')
         page.browser.until('return document.querySelector("[data-test=find-said]").textContent.startsWith(arguments[0])', words, seconds=5)

@@ -41,7 +41,7 @@ return line.hidden ? -1 : Math.floor((line.getBoundingClientRect().left + 1 - pl
 
 
 def made_rows():
-    """Each with its offset in microseconds and the name of its strip. Of 40 rows each eighth steps back, and two are error frames."""
+    """Each with its offset in microseconds and the name of its strip. Each eighth steps back, and two are error frames."""
     all_rows = []
     for index in range(ROWS):
         offset = 5_000_000 + index * 101_003 - (150_000 if index % 8 == 7 else 0)

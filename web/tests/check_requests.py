@@ -41,14 +41,25 @@ const tries = {
   address: () => add("iframe", { src: "javascript:parent.document.body.dataset.address = 'address'" }),
   data: () => add("script", { src: "data:text/javascript,document.body.dataset.data='data'" }),
   blob: () => add("script", { src: URL.createObjectURL(new Blob(["document.body.dataset.blob = 'blob'"])) }),
-  style: () => { add("style", { textContent: "main { outline-width: 17px }" }); if (getComputedStyle(document.querySelector("main")).outlineWidth === "17px") did.push("style"); },
-  attribute: () => { const made = add("p", {}); made.setAttribute("style", "opacity: 0.5"); if (getComputedStyle(made).opacity === "0.5") did.push("attribute"); },
-  base: () => { document.head.append(Object.assign(document.createElement("base"), { href: "http://elsewhere.invalid/" })); if (document.baseURI.includes("elsewhere")) did.push("base"); },
+  style: () => {
+    add("style", { textContent: "main { opacity: 0.5 }" });
+    if (getComputedStyle(document.querySelector("main")).opacity === "0.5") did.push("style");
+  },
+  attribute: () => {
+    const made = add("p", {});
+    made.setAttribute("style", "opacity: 0.5");
+    if (getComputedStyle(made).opacity === "0.5") did.push("attribute");
+  },
+  base: () => {
+    document.head.append(Object.assign(document.createElement("base"), { href: "http://elsewhere.invalid/" }));
+    if (document.baseURI.includes("elsewhere")) did.push("base");
+  },
 };
 function add(name, given) { const made = Object.assign(document.createElement(name), given); document.body.append(made); return made; }
 setTimeout(() => {
   for (const one of Object.values(tries)) { try { one(); } catch {} }
-  setTimeout(() => done([...did, ...Object.values(document.documentElement.dataset), ...Object.values(document.body.dataset)].filter((one) => one !== "yes").sort()), 500);
+  const all = () => [...did, ...Object.values(document.documentElement.dataset), ...Object.values(document.body.dataset)];
+  setTimeout(() => done(all().filter((one) => one !== "yes").sort()), 500);
 });'''
 
 STORED = '''const done = arguments[0];
