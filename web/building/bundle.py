@@ -3,7 +3,8 @@ import re
 
 from .modules import Wrong
 
-IMPORT = re.compile(r"^import \{ [\w, ]+ \} from '\./([\w.]+)';\n", re.M)
+IMPORT = re.compile(r"^import \{ ([\w, ]+) \} from '\./([\w.]+)';\n", re.M)
+EXPORT = re.compile(r'^export (?:async )?(?:function|const|class) (\w+)', re.M)
 NAME = re.compile(r'^(?:export )?(?:async )?(?:function|const|let|class) (\w+)', re.M)
 
 
@@ -25,11 +26,19 @@ def bundled(entry, folders):
 def in_order(name, folders, done, doing):
     if name in doing:
         raise Wrong(f'{name}: imports itself, by {", ".join(doing)}')
-    file = next((folder / name for folder in folders if (folder / name).exists()), None)
-    if file is None:
-        raise Wrong(f'{name}: there is no such module')
-    for needed in dict.fromkeys(IMPORT.findall(file.read_text())):
+    file = found(name, folders)
+    for names, needed in IMPORT.findall(file.read_text()):
+        missing = set(names.split(', ')) - set(EXPORT.findall(found(needed, folders).read_text()))
+        if missing:
+            raise Wrong(f'{name}: {needed} has no {", ".join(sorted(missing))}')
         in_order(needed, folders, done, [*doing, name])
     if file not in done:
         done.append(file)
     return done
+
+
+def found(name, folders):
+    file = next((folder / name for folder in folders if (folder / name).exists()), None)
+    if file is None:
+        raise Wrong(f'{name}: there is no such module')
+    return file
