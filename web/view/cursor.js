@@ -18,7 +18,7 @@ export function nextColumn(first, column, step) {
   return at >= 0 && at < first.length ? at : -1;
 }
 
-export function rowInWords(row) {
+function rowInWords(row) {
   const bus = row.bus === 0 ? '' : `, bus ${row.bus}`;
   const id = row.id === '' ? '' : ` ${row.id}`;
   const data = row.data === '' ? '' : `: ${row.data}`;

@@ -50,7 +50,7 @@ function inUnits(offset, step) {
   return parts.join(' ') || '0';
 }
 
-export function tickLabel(offset, step) {
+function tickLabel(offset, step) {
   if (step >= 1000000) return inUnits(offset, step);
   return withPoint(offset, step, UNITS[offset < 10000000 ? 4 : 3]);
 }

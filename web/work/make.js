@@ -1,6 +1,6 @@
 // The files that are made of an accepted one.
 
-import { CHANNEL_AS_BUS, MOST_HEADER, MOST_LINE, MOST_ROW, RECORD } from './limits.js';
+import { CHANNEL_AS_BUS, MOST_HEADER, MOST_LINE, MOST_ROW } from './limits.js';
 import { carriedWords } from './carried.js';
 import { Library, partOf } from './library.js';
 import { refusalWords } from './refusal.js';
