@@ -2,7 +2,7 @@
 use Prim.Native.Nat.{ℕ}
 use mathlib.Core.Path.{◌≡◌, refl}
 use mathlib.Core.Bool.{Bool, true, false, not}
-use borrow.Author.Tests.{eqb-true, eqb-false, not_true, not-false}
+use borrow.Author.Tests.{eqb-true, eqb-false, not-true, not-false}
 use lib.Dec.{eqb}
 use Rattle.base.specs.inner.Decides.{Decides}
 
@@ -23,7 +23,7 @@ pub shown_not : {P : Type 0} (b : Bool) → Decides P b → not b ≡ false → 
 shown_not b d e = shown b (not-false b e) d
 
 pub refuted_not : {P : Type 0} (b : Bool) → Decides P b → not b ≡ true → P → ⊥
-refuted_not b d e = refuted b (not_true b e) d
+refuted_not b d e = refuted b (not-true b e) d
 
 pub equal : (m n : ℕ) → Decides (m ≡ n) (eqb m n)
 equal m n = go (eqb m n) refl

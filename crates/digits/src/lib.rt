@@ -21,7 +21,7 @@ pub enum Number {
 }
 
 // The case of the letters for the hexadecimal digits from ten on.
-#[derive(Drop)]
+#[derive(Clone, Copy)]
 pub enum Letters {
     Capital,
     Small,

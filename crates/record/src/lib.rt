@@ -13,7 +13,7 @@ use base::{LAST_BUS, OFFSET_LIMIT, wide};
 
 // The fields of a record, each wide enough to hold a wrong value. `data` is the eight data bytes, the first most
 // significant.
-#[derive(Drop)]
+#[derive(Clone, Copy)]
 pub struct Record {
     pub offset: u64,
     pub bus: u64,

@@ -18,7 +18,7 @@ pub const THIRD_PLACE: u64 = 1099511627776;
 
 // Where the reader is in the columns of a row behind its number: what the next field is. Only the offset, and whether a bus
 // follows it, depends on the version.
-#[derive(Drop)]
+#[derive(Clone, Copy)]
 pub enum Stage {
     Offset(u64),
     Bus,

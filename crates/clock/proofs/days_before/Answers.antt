@@ -1,0 +1,9 @@
+-- `days_before` meets its contract: the rule is tested over the whole table, and holds at each entry.
+use mathlib.Core.Path.{◌∙◌}
+use borrow.Author.Rules.{rules}
+use Rattle.base.proofs.Tables.{nested}
+use Rattle.clock.specs.Date.{before}
+use Rattle.clock.proofs.days_before.Goals as goal
+
+pub returns : goal.returns
+returns c = c.wide.ensures ∙ search (nested before 2 12, rules)

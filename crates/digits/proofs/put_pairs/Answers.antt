@@ -1,0 +1,26 @@
+-- `digits::put_pairs` puts one byte more in each turn.
+use Prim.Native.Nat.{◌-◌, ◌≤◌}
+use mathlib.Core.Path.{◌≡◌}
+use native.Mathlib.Omega.{arith}
+use borrow.Author.Rules.{rules}
+use Rattle.digits.proofs.ByteTexts.{put_none, put_more}
+use Rattle.digits.proofs.put_pairs.Goals as goal
+
+pub loop-j-init : goal.loop-j-init
+loop-j-init c = (search rules, search rules, search rules, search rules, λ x q. put_none x _ _ _)
+
+pub loop-j-preserved : goal.loop-j-preserved
+loop-j-preserved c =
+    let l = c.loop-j in
+    let k : l.j ≤ 8 = omega arith in (
+      search rules,
+      search rules,
+      search rules,
+      search rules,
+      λ x q. put_more x l.j c.args.word l.invariant.0 k (l.invariant.4 x q) (c.put_pair-p.ensures.wrote x q),
+    )
+
+pub returns : goal.returns
+returns c =
+    let e : c.loop-j.j - 1 ≡ c.args.n = omega arith in
+    rw e at c.loop-j.invariant.4

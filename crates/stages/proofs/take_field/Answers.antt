@@ -1,0 +1,87 @@
+-- `stages::take_field` hands the field to its stage.
+use Rattle.stages.proofs.Laws.{asked, asked_hex, answered}
+use Rattle.stages.proofs.take_field.Goals as goal
+
+pub offset-requires : goal.offset-requires
+offset-requires c = asked c.args.p c.in-Offset.is c.requires
+
+pub bus-requires : goal.bus-requires
+bus-requires c = asked c.args.p c.in-Bus.is c.requires
+
+pub type_column-requires : goal.type_column-requires
+type_column-requires c = asked c.args.p c.enum_told-in-TypeColumn-1.given.1 c.requires
+
+pub id-requires : goal.id-requires
+id-requires c = asked_hex c.args.p c.enum_told-in-Id-1.given.1 c.requires
+
+pub length-requires : goal.length-requires
+length-requires c = asked c.args.p c.enum_told-in-Length-1.given.1 c.requires
+
+pub data-requires : goal.data-requires
+data-requires c = asked_hex c.args.p c.enum_told-in-Data-1.given.1 c.requires
+
+pub bytes-requires : goal.bytes-requires
+bytes-requires c = asked_hex c.args.p c.enum_told-in-Bytes-1.given.1 c.requires
+
+pub warning_id-requires : goal.warning_id-requires
+warning_id-requires c = asked_hex c.args.p c.enum_told-in-WarningId-1.given.1 c.requires
+
+pub warning_length-requires : goal.warning_length-requires
+warning_length-requires c = asked c.args.p c.enum_told-in-WarningLength-1.given.1 c.requires
+
+pub warning_bytes-requires : goal.warning_bytes-requires
+warning_bytes-requires c = asked_hex c.args.p c.enum_told-in-WarningBytes-1.given.1 c.requires
+
+pub error_id-requires : goal.error_id-requires
+error_id-requires c = asked_hex c.args.p c.enum_told-in-ErrorId-1.given.1 c.requires
+
+pub error_length-requires : goal.error_length-requires
+error_length-requires c = asked c.args.p c.enum_told-in-ErrorLength-1.given.1 c.requires
+
+pub error_first-requires : goal.error_first-requires
+error_first-requires c = asked_hex c.args.p c.enum_told-in-ErrorFirst-1.given.1 c.requires
+
+pub error_second-requires : goal.error_second-requires
+error_second-requires c = asked_hex c.args.p c.enum_told-in-ErrorSecond-1.given.1 c.requires
+
+pub returns-in-Offset : goal.returns-in-Offset
+returns-in-Offset c = answered c.args.p c.in-Offset.is c.offset.ensures
+
+pub returns-in-Bus : goal.returns-in-Bus
+returns-in-Bus c = answered c.args.p c.in-Bus.is c.bus.ensures
+
+pub returns-in-TypeColumn : goal.returns-in-TypeColumn
+returns-in-TypeColumn c = answered c.args.p c.enum_told-in-TypeColumn-1.given.1 c.type_column.ensures
+
+pub returns-in-Id : goal.returns-in-Id
+returns-in-Id c = answered c.args.p c.enum_told-in-Id-1.given.1 c.id.ensures
+
+pub returns-in-Length : goal.returns-in-Length
+returns-in-Length c = answered c.args.p c.enum_told-in-Length-1.given.1 c.length.ensures
+
+pub returns-in-Data : goal.returns-in-Data
+returns-in-Data c = answered c.args.p c.enum_told-in-Data-1.given.1 c.«data».ensures
+
+pub returns-in-Bytes : goal.returns-in-Bytes
+returns-in-Bytes c = answered c.args.p c.enum_told-in-Bytes-1.given.1 c.bytes.ensures
+
+pub returns-in-WarningId : goal.returns-in-WarningId
+returns-in-WarningId c = answered c.args.p c.enum_told-in-WarningId-1.given.1 c.warning_id.ensures
+
+pub returns-in-WarningLength : goal.returns-in-WarningLength
+returns-in-WarningLength c = answered c.args.p c.enum_told-in-WarningLength-1.given.1 c.warning_length.ensures
+
+pub returns-in-WarningBytes : goal.returns-in-WarningBytes
+returns-in-WarningBytes c = answered c.args.p c.enum_told-in-WarningBytes-1.given.1 c.warning_bytes.ensures
+
+pub returns-in-ErrorId : goal.returns-in-ErrorId
+returns-in-ErrorId c = answered c.args.p c.enum_told-in-ErrorId-1.given.1 c.error_id.ensures
+
+pub returns-in-ErrorLength : goal.returns-in-ErrorLength
+returns-in-ErrorLength c = answered c.args.p c.enum_told-in-ErrorLength-1.given.1 c.error_length.ensures
+
+pub returns-in-ErrorFirst : goal.returns-in-ErrorFirst
+returns-in-ErrorFirst c = answered c.args.p c.enum_told-in-ErrorFirst-1.given.1 c.error_first.ensures
+
+pub returns-in-ErrorSecond : goal.returns-in-ErrorSecond
+returns-in-ErrorSecond c = answered c.args.p c.enum_told-in-ErrorSecond-1.given.1 c.error_second.ensures
