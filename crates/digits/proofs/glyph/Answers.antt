@@ -17,4 +17,4 @@ returns-in-Capital c =
 pub returns-in-Small : goal.returns-in-Small
 returns-in-Small c =
     let a = c.args in
-    sym (glyph_letter a.letters a.d c.if-d-lt10.false ∙ ap (λ (l : Letters). ten_of l + (a.d - 10)) c.enum_told-in-Small-1.given.1)
+    sym (glyph_letter a.letters a.d c.if-d-lt10.false ∙ ap (λ (l : Letters). ten_of l + (a.d - 10)) c.in-Small.is)

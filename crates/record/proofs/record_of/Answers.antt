@@ -8,7 +8,8 @@ overflow_add-result-2 c = record { fits = data_lt c.args.m c.args.l (omega arith
 
 pub returns : goal.returns
 returns c =
-    let a = c.args in (
-      made_number a.h a.m a.l c.requires.1,
-      (omega arith, omega arith, omega arith, omega arith, omega arith, omega arith, data_lt a.m a.l (omega arith)),
-    )
+    let a = c.args in
+    record {
+      l_value = made_number a.h a.m a.l c.requires.1;
+      offset_bound = (omega arith, omega arith, omega arith, omega arith, omega arith, omega arith, data_lt a.m a.l (omega arith));
+    }
