@@ -2,8 +2,9 @@
 use mathlib.Core.Path.{◌∙◌}
 use borrow.Author.Rules.{rules}
 use Rattle.base.proofs.Tables.{nested}
-use Rattle.clock.specs.Date.{before}
+use Rattle.clock.specs.Date.{month_days, before}
 use Rattle.clock.proofs.days_before.Goals as goal
 
 pub returns : goal.returns
+unfolding before month_days
 returns c = c.wide.ensures ∙ search (nested before 2 12, rules)

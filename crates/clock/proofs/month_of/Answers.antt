@@ -6,6 +6,7 @@ use native.Mathlib.Omega.{arith}
 use Rattle.clock.specs.Date.{before}
 use Rattle.clock.proofs.Calendar.{guess, next_month, whole_year}
 use Rattle.clock.proofs.month_of.Goals as goal
+use Rattle.clock.proofs.month_of.Goals.{then-guess-lt11+else-next-day, else-guess-lt11}
 
 pub returns-then-next-day : goal.returns-then-next-day
 returns-then-next-day c =
@@ -24,8 +25,9 @@ returns c =
     let m = a.day / 31 in
     let g = guess a.leap m (omega arith) (omega arith) in
     let n = next_month a.leap m in
-    ⊎_elim (λ w. omega arith)
-    (λ w.
-    let e : before a.leap (m + 1) ≡ before a.leap 12 = ap (before a.leap) (omega arith) in
-    omega (arith, whole_year a.leap))
-    c.if-guess-lt11.branch
+    elim c.if-guess-lt11.branch [
+      | then-guess-lt11+else-next-day w ↦ omega arith
+      | else-guess-lt11 w ↦
+        let e : before a.leap (m + 1) ≡ before a.leap 12 = ap (before a.leap) (omega arith) in
+        omega (arith, whole_year a.leap)
+    ]
