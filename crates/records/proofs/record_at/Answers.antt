@@ -13,22 +13,22 @@ part : (at : ℕ) → at + 20 - at ≡ 20
 part at = omega arith
 
 pub returns-then-mark-mark_after : goal.returns-then-mark-mark_after
-returns-then-mark-mark_after c =
-    λ r p. let z = one_marked p (let u = rw c.in-Fields.is at c.unpack-u.ensures in rw (part c.args.at) at (unpacked_fields c.in-Fields.r u)) in
-    c.if-mark-mark_after.true
-    (sym z.1 ∙ ap (λ (x : Record). mark_after c.args x.offset) z.0 ∙ sym c.mark_after.ensures)
+returns-then-mark-mark_after c r p =
+    let u = rw c.in-Fields.is at c.unpack-u.ensures in
+    let z = one_marked p (rw (part c.args.at) at (unpacked_fields c.in-Fields.r u)) in
+    c.if-mark-mark_after.true (sym z.1 ∙ ap (λ (x : Record). mark_after c.args.before x.offset) z.0 ∙ sym c.mark_after.ensures)
 
 pub returns-else-mark-mark_after : goal.returns-else-mark-mark_after
-returns-else-mark-mark_after c = rw c.mark_after.ensures at (rw c.if-mark-mark_after.false at (let u = rw c.in-Fields.is at c.unpack-u.ensures in rw (part c.args.at) at (unpacked_fields c.in-Fields.r u)))
+returns-else-mark-mark_after c =
+    let u = rw c.in-Fields.is at c.unpack-u.ensures in
+    rw c.mark_after.ensures at (rw c.if-mark-mark_after.false at (rw (part c.args.at) at (unpacked_fields c.in-Fields.r u)))
 
 pub returns-in-NotTwenty : goal.returns-in-NotTwenty
-returns-in-NotTwenty c =
-    λ r p. let a = c.args in
+returns-in-NotTwenty c r p =
     let u = rw c.in-NotTwenty.is at c.unpack-u.ensures in
-    unpacked_not_twenty (rw (part a.at) at u) (packed_length p)
+    unpacked_not_twenty (rw (part c.args.at) at u) (packed_length p)
 
 pub returns-in-Malformed : goal.returns-in-Malformed
-returns-in-Malformed c =
-    λ r p. let a = c.args in
-    let u = rw c.enum_told-in-Malformed-1.given.1 at c.unpack-u.ensures in
-    (unpacked_malformed (rw (part a.at) at u)).1 r (mark_after a r.offset) p
+returns-in-Malformed c r p =
+    let u = rw c.in-Malformed.is at c.unpack-u.ensures in
+    (unpacked_malformed (rw (part c.args.at) at u)).1 r (mark_after c.args.before r.offset) p
