@@ -1,4 +1,6 @@
 // What every layer shares: the largest offset and the last bus, one byte widened, bytes stored, the end of a line.
+#![tactic(auto)]
+
 ghost use Rattle.std.specs.Prelude.{◌≡◌, [], ◌∷◌, ◌+◌, ◌≤◌, ◌<◌, length};
 ghost use Rattle.base.specs.Text.{cr, lf};
 ghost use Rattle.base.specs.inner.Wrote.{Wrote};

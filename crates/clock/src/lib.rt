@@ -1,4 +1,6 @@
 // Time, in whole numbers: starts, day fractions, dates and stamps.
+#![tactic(auto)]
+
 ghost use Rattle.std.specs.Prelude.{◌≡◌, ◌+◌, ◌*◌, ◌-◌, ◌^◌, ◌≤◌, ◌<◌};
 ghost use Rattle.base.specs.Limits.{offset_limit};
 ghost use Rattle.base.specs.inner.Decides.{Decides};

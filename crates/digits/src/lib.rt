@@ -1,4 +1,6 @@
 // Numbers as digit strings: read from bytes, and written as the house spells them.
+#![tactic(auto)]
+
 mod hex;
 
 ghost use Rattle.std.specs.Prelude.{◌≡◌, ◌∷◌, ◌+◌, ◌*◌, ◌^◌, ◌≤◌, ◌<◌, length};

@@ -1,4 +1,6 @@
 // Lists of packed records: whether bytes can be one, the record at a place, the marks, and the first step back.
+#![tactic(auto)]
+
 ghost use Rattle.std.specs.Prelude.{◌≡◌, ◌+◌, ◌≤◌, length, take, drop};
 ghost use Rattle.records.specs.inner.BackAfter.{BackAfter};
 ghost use Rattle.base.specs.inner.Decides.{Decides};

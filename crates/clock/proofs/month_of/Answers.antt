@@ -28,6 +28,6 @@ returns c =
     elim c.if-guess-lt11.branch [
       | then-guess-lt11+else-next-day w ↦ omega arith
       | else-guess-lt11 w ↦
-        let e : before a.leap (m + 1) ≡ before a.leap 12 = ap (before a.leap) (omega arith) in
-        omega (arith, whole_year a.leap)
+          let e : before a.leap (m + 1) ≡ before a.leap 12 = ap (before a.leap) (omega arith) in
+          omega (arith, whole_year a.leap)
     ]

@@ -20,11 +20,10 @@ pub get8-l-requires : goal.get8-l-requires
 get8-l-requires c = omega (arith, (packed_within c.args.at c.args.s.now c.requires.1.packs))
 
 pub record_of-requires : goal.record_of-requires
-record_of-requires c =
-    (
-      omega arith,
-      spare _ c.get8-l.result ((let a = c in three_words a.args.s.now a.args.at _ _ _ (packed_within a.args.at a.args.s.now a.requires.1.packs) c.get4-h.ensures c.get8-m.ensures c.get8-l.ensures)).below ((let a = c in three_words a.args.s.now a.args.at _ _ _ (packed_within a.args.at a.args.s.now a.requires.1.packs) c.get4-h.ensures c.get8-m.ensures c.get8-l.ensures)).are c.requires.1.packs,
-    )
+record_of-requires c = (
+  omega arith,
+  spare _ c.get8-l.result ((let a = c in three_words a.args.s.now a.args.at _ _ _ (packed_within a.args.at a.args.s.now a.requires.1.packs) c.get4-h.ensures c.get8-m.ensures c.get8-l.ensures)).below ((let a = c in three_words a.args.s.now a.args.at _ _ _ (packed_within a.args.at a.args.s.now a.requires.1.packs) c.get4-h.ensures c.get8-m.ensures c.get8-l.ensures)).are c.requires.1.packs,
+)
 
 pub returns : goal.returns
 returns c =
