@@ -2,7 +2,7 @@
 use Prim.Native.Nat.{ℕ, ◌+◌, ◌*◌, ◌^◌, ◌≤◌, ◌<◌}
 use mathlib.Core.Path.{◌≡◌, refl, ap, sym, ◌∙◌}
 use mathlib.Core.Logic.{◌≢◌, ◌⊎◌, inl, inr, ⊎_elim}
-use mathlib.Core.Bool.{Bool, true, false, not}
+use mathlib.Core.Bool.{Bool, true, false}
 use mathlib.Core.List.{List, [], ◌∷◌, ◌++◌, append_assoc}
 use native.Mathlib.Nat.{add-zero}
 use native.Mathlib.Numerals.{add-one}
@@ -14,7 +14,7 @@ use lib.ListN.{length, get_or, drop, length-append, get_or-append}
 use lib.Seq.{slice, slice_empty, length-slice, drop-cons, drop-drop, drop-append_seam, get_or-drop, get_or-append_seam}
 use Rattle.base.proofs.Lists.{slice_snoc}
 use Rattle.base.specs.inner.Decides.{Decides}
-use Rattle.base.proofs.Tests.{shown_not}
+use Rattle.base.proofs.Tests.{shown}
 use Rattle.digits.specs.Digits.{HexDigit, Hex}
 use Rattle.digits.specs.Digits.{none as no-digits, more as digits_more}
 use Rattle.digits.proofs.Strings.{each}
@@ -32,8 +32,8 @@ last_test {P} b n f = go (eqb b n) refl
     go true e = inr (eqb-true b n e)
     go false e = ⊎_elim f (eqb-false b n e)
 
--- What the answer of `ends` says of the byte, by the test of its negation.
-pub is_solid : {b : ℕ} (r : Bool) → Decides (End b) r → not r ≡ true → Solid b
+-- What the answer of `ends` says of the byte, where it is false.
+pub is_solid : {b : ℕ} (r : Bool) → Decides (End b) r → r ≡ false → Solid b
 is_solid true d e = let z : ◌≡◌ {A = ℕ} 0 1 = cc in absurd (omega arith)
 is_solid false d e = record { blank = λ h. d (inl h); end = λ h. d (inr h) }
 
@@ -76,12 +76,12 @@ module _ {w : List ℕ} {at : ℕ} where
   here {t} p = inside w (at + length t) p.lined
 
   -- a byte that ends the field behind them
-  pub ended : {t : List ℕ} → StandsAt t w at → 0 < length t → (r : Bool) → Decides (End (get_or w (at + length t) 0)) r → not r ≡ false
+  pub ended : {t : List ℕ} → StandsAt t w at → 0 < length t → (r : Bool) → Decides (End (get_or w (at + length t) 0)) r → r ≡ true
       → FieldAt t (drop (at + length t) w) (drop at w)
-  ended {t} p h r d e = record { bytes = p.bytes; some = h; solid = p.solid; stops = stops_here w (at + length t) (shown_not r d e) }
+  ended {t} p h r d e = record { bytes = p.bytes; some = h; solid = p.solid; stops = stops_here w (at + length t) (shown r e d) }
 
   -- no such byte: no field is as long as they are
-  pub unended : {t f rest : List ℕ} → StandsAt t w at → (r : Bool) → Decides (End (get_or w (at + length t) 0)) r → not r ≡ true
+  pub unended : {t f rest : List ℕ} → StandsAt t w at → (r : Bool) → Decides (End (get_or w (at + length t) 0)) r → r ≡ false
       → FieldAt f rest (drop at w) → length f ≡ length t → ⊥
   unended {t} {f} {rest} p b d n a e =
       let j = at + length t in

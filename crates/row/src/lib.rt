@@ -1,5 +1,7 @@
 // One row of a trace: what its version decides, and the stages in which it is read. What each stage does to the state, field by field, is in
 // `specs/inner/Stages`, with a law for each in `proofs/`; `row_reader` walks through them, and `stages` takes them one by one.
+#![tactic(auto)]
+
 mod ids;
 mod versions;
 

@@ -28,7 +28,7 @@ pub returns-then-not-ends : goal.returns-then-not-ends
 returns-then-not-ends c =
     let e = c.ends in
     not c.none-then-not-ends.ensures (λ f rest a v p.
-    unended (first c.requires refl) e.result e.ensures c.if-not-ends.true-raw a (ap length p.spelled))
+    unended (first c.requires refl) e.result e.ensures c.if-not-ends.true a (ap length p.spelled))
 
 pub overflow_add-result : goal.overflow_add-result
 overflow_add-result c = omega (arith, here (first c.requires refl))
@@ -37,5 +37,5 @@ pub returns : goal.returns
 returns c =
     let x = c.ends in
     let e : get_or c.args.w.now c.args.at 0 ≡ 48 + c.wide.result = omega arith in
-    taken (ended (first c.requires refl) (omega arith) x.result x.ensures c.if-not-ends.false-raw) refl
+    taken (ended (first c.requires refl) (omega arith) x.result x.ensures c.if-not-ends.false) refl
     (record { small = omega arith; spelled = ap (λ (x : ℕ). x ∷ []) e })

@@ -41,7 +41,7 @@ pub returns-then-not-ends : goal.returns-then-not-ends
 returns-then-not-ends c =
     let e = c.ends in
     not c.none-then-not-ends.ensures (λ f rest a v p.
-    unended ((then ((then (first c.requires c.if-bytes-at-ne82.false) (solid_at 84 (omega arith)) c.if-bytes-at-ne84.false)) (solid_at 82 (omega arith)) c.if-bytes-at-ne82-2.false)) e.result e.ensures c.if-not-ends.true-raw a (ap length p))
+    unended ((then ((then (first c.requires c.if-bytes-at-ne82.false) (solid_at 84 (omega arith)) c.if-bytes-at-ne84.false)) (solid_at 82 (omega arith)) c.if-bytes-at-ne82-2.false)) e.result e.ensures c.if-not-ends.true a (ap length p))
 
 pub overflow_add-result : goal.overflow_add-result
 overflow_add-result c = omega (arith, here ((then ((then (first c.requires c.if-bytes-at-ne82.false) (solid_at 84 (omega arith)) c.if-bytes-at-ne84.false)) (solid_at 82 (omega arith)) c.if-bytes-at-ne82-2.false)))
@@ -49,4 +49,4 @@ overflow_add-result c = omega (arith, here ((then ((then (first c.requires c.if-
 pub returns : goal.returns
 returns c =
     let e = c.ends in
-    taken (ended ((then ((then (first c.requires c.if-bytes-at-ne82.false) (solid_at 84 (omega arith)) c.if-bytes-at-ne84.false)) (solid_at 82 (omega arith)) c.if-bytes-at-ne82-2.false)) (omega arith) e.result e.ensures c.if-not-ends.false-raw) refl refl
+    taken (ended ((then ((then (first c.requires c.if-bytes-at-ne82.false) (solid_at 84 (omega arith)) c.if-bytes-at-ne84.false)) (solid_at 82 (omega arith)) c.if-bytes-at-ne82-2.false)) (omega arith) e.result e.ensures c.if-not-ends.false) refl refl

@@ -26,7 +26,7 @@ pub returns-then-not-ends : goal.returns-then-not-ends
 returns-then-not-ends c =
     let e = c.ends in
     not c.none-then-not-ends.ensures (λ f rest a v p.
-    unended ((then (first c.requires refl) (solid_at 120 (omega arith)) c.if-bytes-at-ne120.false)) e.result e.ensures c.if-not-ends.true-raw a (ap length p.0))
+    unended ((then (first c.requires refl) (solid_at 120 (omega arith)) c.if-bytes-at-ne120.false)) e.result e.ensures c.if-not-ends.true a (ap length p.0))
 
 pub overflow_add-result : goal.overflow_add-result
 overflow_add-result c = omega (arith, here ((then (first c.requires refl) (solid_at 120 (omega arith)) c.if-bytes-at-ne120.false)))
@@ -34,4 +34,4 @@ overflow_add-result c = omega (arith, here ((then (first c.requires refl) (solid
 pub returns : goal.returns
 returns c =
     let e = c.ends in
-    taken (ended ((then (first c.requires refl) (solid_at 120 (omega arith)) c.if-bytes-at-ne120.false)) (omega arith) e.result e.ensures c.if-not-ends.false-raw) refl (refl, refl)
+    taken (ended ((then (first c.requires refl) (solid_at 120 (omega arith)) c.if-bytes-at-ne120.false)) (omega arith) e.result e.ensures c.if-not-ends.false) refl (refl, refl)

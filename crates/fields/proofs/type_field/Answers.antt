@@ -2,6 +2,7 @@
 use mathlib.Core.Path.{refl}
 use mathlib.Core.Logic.{⊎_elim}
 use native.Mathlib.Omega.{arith}
+use borrow.Author.Rules.{rules}
 use Rattle.fields.specs.inner.Window.{not}
 use Rattle.fields.proofs.Window.{inside}
 use Rattle.fields.proofs.FixedFields.{first, here, byte_at, first_is, short, long, type_takes, no_short, no_long, solid_at}
@@ -28,7 +29,7 @@ returns-in-82 c = type_takes c.requires (short (λ e. omega arith) (λ e. omega 
 pub returns-in_default : goal.returns-in_default
 returns-in_default c =
     not c.none.ensures (λ f rest a v p.
-    no_short (first_is c.requires a) (byte_at c.args.w.now c.args.at 1 a) c.if-bytes-at-eq120.true c.in_default.rest.1 p)
+    no_short (first_is c.requires a) (byte_at c.args.w.now c.args.at 1 a) c.if-bytes-at-eq120.true (λ s. search rules) p)
 
 pub overflow_sub-error : goal.overflow_sub-error
 overflow_sub-error c = ⊎_elim (λ e. omega arith) (λ e. omega arith) c.in-69.is
@@ -44,4 +45,4 @@ returns-in-69 c =
 pub returns-in_default-m : goal.returns-in_default-m
 returns-in_default-m c =
     not c.none-in_default-m.ensures (λ f rest a v p.
-    no_long (first_is c.requires a) (byte_at c.args.w.now c.args.at 1 a) c.if-bytes-at-eq120.false c.in_default-m.rest.1 p)
+    no_long (first_is c.requires a) (byte_at c.args.w.now c.args.at 1 a) c.if-bytes-at-eq120.false (λ s. ⊎_elim (λ e. omega arith) (λ e. omega arith) s) p)

@@ -17,7 +17,7 @@ bounds-bytes-i-in-loop-bytes c = behind c.loop-bytes.invariant
 pub returns-then-bytes-i-lt65 : goal.returns-then-bytes-i-lt65
 returns-then-bytes-i-lt65 c =
     not c.none.ensures (λ f rest a v p.
-    no_word c.loop-bytes.invariant (is_solid c.ends.result c.ends.ensures c.loop-bytes-test.true-raw) (λ q. omega arith) a p)
+    no_word c.loop-bytes.invariant (is_solid c.ends.result c.ends.ensures c.loop-bytes-test.true) (λ q. omega arith) a p)
 
 pub bounds-bytes-i-in-loop-bytes-2 : goal.bounds-bytes-i-in-loop-bytes-2
 bounds-bytes-i-in-loop-bytes-2 c = behind c.loop-bytes.invariant
@@ -25,7 +25,7 @@ bounds-bytes-i-in-loop-bytes-2 c = behind c.loop-bytes.invariant
 pub returns-then-bytes-i-gt90 : goal.returns-then-bytes-i-gt90
 returns-then-bytes-i-gt90 c =
     not c.none-then-bytes-i-gt90.ensures (λ f rest a v p.
-    no_word c.loop-bytes.invariant (is_solid c.ends.result c.ends.ensures c.loop-bytes-test.true-raw) (λ q. omega arith) a p)
+    no_word c.loop-bytes.invariant (is_solid c.ends.result c.ends.ensures c.loop-bytes-test.true) (λ q. omega arith) a p)
 
 pub overflow_add-i : goal.overflow_add-i
 overflow_add-i c = omega (arith, behind c.loop-bytes.invariant)
