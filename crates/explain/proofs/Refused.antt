@@ -4,16 +4,15 @@ use Prim.Native.Nat.{ℕ, ◌+◌, ◌≤◌, ◌<◌}
 use mathlib.Core.Path.{◌≡◌, ap, ◌∙◌}
 use mathlib.Core.List.{List, ◌∷◌, ◌++◌}
 use native.Mathlib.Omega.{arith}
-use lib.ListN.{length, get_or}
+use lib.ListN.{get_or}
 use Rattle.fields.specs.Columns.{last_number}
 use Rattle.row.specs.Versions.{Version}
 use Rattle.trace.specs.declared.Outcome.TheVariants as outcome
 use Rattle.trace.specs.Trace.{Trace, Spells}
 use Rattle.trace.specs.Promise.{EndedLines, ReadPromise, read_numbers, large, done, no_room, refused}
 use Rattle.trace.proofs.Exactly.{refused_fails}
-use Rattle.trace.proofs.Fails.{Stage, RightSoFar, at_later, next_number, WrongNext, no_row, Fails}
-use Rattle.explain.specs.declared.Explained.TheVariants as explained
-use Rattle.explain.specs.Explain.{Unexplained, no_number, row}
+use Rattle.trace.proofs.Fails.{Stage, RightSoFar, at_first, at_second, at_later, next_number, WrongNext, no_row, Fails}
+use Rattle.explain.specs.Explain.{Unexplained, no_number}
 use Rattle.explain.specs.Promise.{ExplainPromise, no_version, unexplained, wrong, early}
 use Rattle.explain.proofs.Theorems.{to_explain}
 
@@ -51,6 +50,8 @@ row_refused : {text : List ℕ} {place : ℕ} → Fails text 7 place → Refused
 row_refused f = go f.stands f.stopped f.whole f.at
   where
     go : {text front rest : List ℕ} {n place : ℕ} {g : Stage} → RightSoFar n front g → WrongNext g rest 7 → text ≡ front ++ rest → place ≡ n + 1 → RefusedRow text place
+    go {rest = rest} at_first w e p = elim w [ ]
+    go {front = front} {rest = rest} (at_second {v = v} {line = line} l i) w e p = elim w [ ]
     go {front = front} {n = n} (at_later {t = t} m ls a) (no_row {line = line} {after = after} l c d r) e p = record {
       n = n;
       at = p;

@@ -1,5 +1,7 @@
 // Tells what is wrong with a line that is no row: which field, or that it ended early. The fields are taken one after the other by the stages of the
 // row reader (`stages`), each in a window of its own, and in a loop: a line has no limit here, and calls that nest would grow with it.
+#![tactic(auto)]
+
 ghost use Rattle.std.specs.Prelude.{ℕ, ◌≤◌, ◌<◌, length};
 ghost use Rattle.base.specs.inner.Decides.{Decides};
 ghost use Rattle.digits.specs.inner.HexTable.{HexTable};

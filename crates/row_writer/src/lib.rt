@@ -1,4 +1,6 @@
 // The row writer: a record as a row of a trace, as the house spells it, and how many bytes that is.
+#![tactic(auto)]
+
 ghost use Rattle.std.specs.Prelude.{◌≡◌, ◌∷◌, ◌+◌, ◌/◌, ◌≤◌, length};
 ghost use Rattle.digits.specs.inner.Pairs.{PairsOf};
 ghost use Rattle.base.specs.Spaced.{spaced, joined};

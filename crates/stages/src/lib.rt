@@ -1,5 +1,7 @@
 // Steps through the columns of a row, one field at a time and by value: what is known behind a field goes in and comes out as a `Part`. A file
 // for each kind of row (`head`, then `frame`, `warning` or `error`) has a function for each stage.
+#![tactic(auto)]
+
 mod error;
 mod frame;
 mod head;

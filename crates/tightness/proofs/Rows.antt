@@ -107,6 +107,8 @@ bytes_in_another_order {a = a} {b = b} {i = i} {l = l} {f = f} {g = g} {fs = fs}
     z (ap (λ (o : List ℕ). get_or o 6 0 / 256 ^ 6) w.is ∙ go w.id)
   where
     two : {n sum : ℕ} → n ≤ 8 → Row.ByteFields Row.Nothing (256 ^ 7) n sum (f ∷ g ∷ fs) → sum / 256 ^ 6 ≡ a * 256 + b
+    two h (Row.done d) = elim d [ ]
+    two {sum = sum} h (Row.byte r (Row.done d) e) = elim d [ ]
     two h (Row.byte r (Row.byte s t d) e) = omega (arith, one_hex r x, one_hex s y, (bytes_sum 5 t refl (omega arith)).0)
 
     go : {sent : ℕ} {r : Record} → Row.FrameId sent r (i ∷ l ∷ f ∷ g ∷ fs) → r.«data» / 256 ^ 6 ≡ a * 256 + b

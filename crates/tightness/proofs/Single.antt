@@ -204,7 +204,7 @@ blanks_refused {v} {a} {b} p t q (Answer.none e f) =
 
 -- but not with a tab
 pub tab_taken : {v : ℕ} → VersionLine v (59 ∷ (version_text 12 ++ (9 ∷ []))) → ⊥
-tab_taken l = go l.blanks l.is l.blank-end l.bytes
+tab_taken l = go l.blanks l.is l.blank_end l.bytes
   where
     go : {v : ℕ} {a b : List ℕ} → Blanks a → Version v → Blanks b → 59 ∷ (version_text 12 ++ (9 ∷ [])) ≡ 59 ∷ (a ++ (version_text v ++ b)) → ⊥
     go (and {b = x} p a) t q e = let z : 36 ≡ x = cc in omega arith

@@ -15,10 +15,12 @@ pub complete-requires : goal.complete-requires
 complete-requires c = c.loop-p.invariant.good
 
 pub returns-then-complete : goal.returns-then-complete
-returns-then-complete c = end_row c.loop-p.invariant c.run_end-a.ensures c.complete.result c.if-complete.true c.complete.ensures c.if-a-line.true
+returns-then-complete c =
+    end_row c.loop-p.invariant c.run_end-a.ensures c.complete.result c.if-complete.true c.complete.ensures c.if-a-line.true
 
 pub returns-then-a-line : goal.returns-then-a-line
-returns-then-a-line c = end_early c.loop-p.invariant c.run_end-a.ensures c.complete.result c.if-complete.false c.complete.ensures c.if-a-line.true
+returns-then-a-line c =
+    end_early c.loop-p.invariant c.run_end-a.ensures c.complete.result c.if-complete.false c.complete.ensures c.if-a-line.true
 
 pub field_end-e-requires : goal.field_end-e-requires
 field_end-e-requires c = c.run_end-a.ensures.within
@@ -38,18 +40,28 @@ step-t-requires c =
     (lent (blanks_ran c.run_end-a.ensures) c.if-a-line.false h c.requires.0, c.loop-p.invariant.good, c.requires.4)
 
 pub overflow_add-result : goal.overflow_add-result
-overflow_add-result c = let l = later (blanks_ran c.run_end-a.ensures) c.if-a-line.false c.field_end-e.ensures in omega (arith, c.loop-p.invariant.few, c.run_end-a.ensures.from, c.field_end-e.ensures.within)
+overflow_add-result c =
+    let l = later (blanks_ran c.run_end-a.ensures) c.if-a-line.false c.field_end-e.ensures in
+    omega (arith, c.loop-p.invariant.few, c.run_end-a.ensures.from, c.field_end-e.ensures.within)
 
 pub returns-then-t-eq0 : goal.returns-then-t-eq0
-returns-then-t-eq0 c = at_wrong c.loop-p.invariant c.run_end-a.ensures c.if-a-line.false c.field_end-e.ensures (rw (part c.field_end-e.ensures) at c.step-t.ensures) c.if-t-eq0.true
+returns-then-t-eq0 c =
+    let m = rw (part c.field_end-e.ensures) at c.step-t.ensures in
+    at_wrong c.loop-p.invariant c.run_end-a.ensures c.if-a-line.false c.field_end-e.ensures m c.if-t-eq0.true
 
 pub overflow_add-i : goal.overflow_add-i
-overflow_add-i c = let l = later (blanks_ran c.run_end-a.ensures) c.if-a-line.false c.field_end-e.ensures in omega (arith, c.loop-p.invariant.few, c.run_end-a.ensures.from, c.field_end-e.ensures.within)
+overflow_add-i c =
+    let l = later (blanks_ran c.run_end-a.ensures) c.if-a-line.false c.field_end-e.ensures in
+    omega (arith, c.loop-p.invariant.few, c.run_end-a.ensures.from, c.field_end-e.ensures.within)
 
 pub loop-p-smaller : goal.loop-p-smaller
-loop-p-smaller c = let l = later (blanks_ran c.run_end-a.ensures) c.if-a-line.false c.field_end-e.ensures in omega (arith, c.run_end-a.ensures, c.field_end-e.ensures.within)
+loop-p-smaller c =
+    let l = later (blanks_ran c.run_end-a.ensures) c.if-a-line.false c.field_end-e.ensures in
+    omega (arith, c.run_end-a.ensures, c.field_end-e.ensures.within)
 
 pub loop-p-preserved : goal.loop-p-preserved
 loop-p-preserved c =
+    let m = rw (part c.field_end-e.ensures) at c.step-t.ensures in
     let l = later (blanks_ran c.run_end-a.ensures) c.if-a-line.false c.field_end-e.ensures in
-    one_more_field c.loop-p.invariant c.run_end-a.ensures c.if-a-line.false c.field_end-e.ensures (rw (part c.field_end-e.ensures) at c.step-t.ensures) c.if-t-eq0.false (omega (arith, c.run_end-a.ensures.from, c.loop-p.invariant.few))
+    one_more_field c.loop-p.invariant c.run_end-a.ensures c.if-a-line.false c.field_end-e.ensures m c.if-t-eq0.false
+    (omega (arith, c.run_end-a.ensures.from, c.loop-p.invariant.few))

@@ -7,7 +7,10 @@ use Rattle.explain.proofs.Answers.{none_goes_on, moved_good, expected_can_end, n
 use Rattle.explain.proofs.explain_row.Goals as goal
 
 pub returns-then-a-line : goal.returns-then-a-line
-returns-then-a-line c = found_early (fields_none c.args.version c.args.number c.args.line.now) (blanks_ran c.run_end-a.ensures) c.if-a-line.true (expected_can_end c.args.number c.requires.1 c.requires.2) no_row_empty
+returns-then-a-line c =
+    let n = fields_none c.args.version c.args.number c.args.line.now in
+    let o = expected_can_end c.args.number c.requires.1 c.requires.2 in
+    found_early n (blanks_ran c.run_end-a.ensures) c.if-a-line.true o no_row_empty
 
 pub field_end-e-requires : goal.field_end-e-requires
 field_end-e-requires c = c.run_end-a.ensures.within
@@ -17,8 +20,9 @@ overflow_sub-e c = omega (arith, c.field_end-e.ensures.from)
 
 pub returns-then-e-a-gt-LONGEST : goal.returns-then-e-a-gt-LONGEST
 returns-then-e-a-gt-LONGEST c =
+    let n = fields_none c.args.version c.args.number c.args.line.now in
     let h = c.field_end-e.ensures in
-    found_wrong (blanks_ran c.run_end-a.ensures) c.if-a-line.false h (fields_none c.args.version c.args.number c.args.line.now) (expected_can_end c.args.number c.requires.1 c.requires.2)
+    found_wrong (blanks_ran c.run_end-a.ensures) c.if-a-line.false h n (expected_can_end c.args.number c.requires.1 c.requires.2)
     (no_long_number (omega (arith, length-slice c.run_end-a.result c.field_end-e.result c.args.line.now h.within)))
 
 pub slice_bounds-first-count : goal.slice_bounds-first-count
@@ -33,14 +37,16 @@ slice_bounds-first-end c = c.field_end-e.ensures.within
 pub first-t-requires : goal.first-t-requires
 first-t-requires c =
     let h = c.field_end-e.ensures in
-    (lent (blanks_ran c.run_end-a.ensures) c.if-a-line.false h c.requires.0, rw (part h) (omega (arith, length-slice c.run_end-a.result c.field_end-e.result c.args.line.now h.within)), c.requires.1)
+    let l = length-slice c.run_end-a.result c.field_end-e.result c.args.line.now h.within in
+    (lent (blanks_ran c.run_end-a.ensures) c.if-a-line.false h c.requires.0, rw (part h) (omega arith), c.requires.1)
 
 pub returns-then-t-eq0 : goal.returns-then-t-eq0
 returns-then-t-eq0 c =
+    let n = fields_none c.args.version c.args.number c.args.line.now in
     let g = blanks_ran c.run_end-a.ensures in
     let h = c.field_end-e.ensures in
     let m = rw (part h) at c.first-t.ensures in
-    found_wrong g c.if-a-line.false h (fields_none c.args.version c.args.number c.args.line.now) (expected_can_end c.args.number c.requires.1 c.requires.2) (none_goes_on m c.if-t-eq0.true)
+    found_wrong g c.if-a-line.false h n (expected_can_end c.args.number c.requires.1 c.requires.2) (none_goes_on m c.if-t-eq0.true)
 
 pub explain_fields-requires : goal.explain_fields-requires
 explain_fields-requires c =
@@ -52,7 +58,8 @@ explain_fields-requires c =
 
 pub returns : goal.returns
 returns c =
+    let n = fields_none c.args.version c.args.number c.args.line.now in
     let g = blanks_ran c.run_end-a.ensures in
     let h = c.field_end-e.ensures in
     let m = rw (part h) at c.first-t.ensures in
-    c.explain_fields.ensures c.args.version c.args.number (fields_next g c.if-a-line.false h (fields_none c.args.version c.args.number c.args.line.now) m c.if-t-eq0.false)
+    c.explain_fields.ensures c.args.version c.args.number (fields_next g c.if-a-line.false h n m c.if-t-eq0.false)

@@ -6,7 +6,7 @@ pub returns-in-Plain : goal.returns-in-Plain
 returns-in-Plain c = rw c.in-Plain.is at c.remark_of-remark.ensures
 
 pub returns-in-Dollar : goal.returns-in-Dollar
-returns-in-Dollar c = λ n. not_both n (rw c.enum_told-in-Dollar-1.given.1 at c.remark_of-remark.ensures)
+returns-in-Dollar c = λ n. not_both n (rw c.in-Dollar.is at c.remark_of-remark.ensures)
 
 pub returns-in-Neither : goal.returns-in-Neither
-returns-in-Neither c = (rw c.enum_told-in-Neither-1.given.1 at c.remark_of-remark.ensures).0
+returns-in-Neither c = (rw c.in-Neither.is at c.remark_of-remark.ensures).0

@@ -18,10 +18,14 @@ pub returns-then-run_end-f : goal.returns-then-run_end-f
 returns-then-run_end-f c = long_stuck c.args.p _ (omega arith) (no_word c.run_end.ensures c.if-run_end-f.true) refl
 
 pub slice_bounds-window-end : goal.slice_bounds-window-end
-slice_bounds-window-end c = let f = c.args.f.now in let l : word_bytes ≤ length f = omega arith in sym (length-take-le word_bytes f l)
+slice_bounds-window-end c =
+    let l : word_bytes ≤ length c.args.f.now = omega arith in
+    sym (length-take-le word_bytes c.args.f.now l)
 
 pub window-requires-2 : goal.window-requires-2
-window-requires-2 c = let f = c.args.f.now in let l : word_bytes ≤ length f = omega arith in rw (length-take-le word_bytes f l) (omega arith)
+window-requires-2 c =
+    let l : word_bytes ≤ length c.args.f.now = omega arith in
+    rw (length-take-le word_bytes c.args.f.now l) (omega arith)
 
 pub take_field-requires-2 : goal.take_field-requires-2
 take_field-requires-2 c =

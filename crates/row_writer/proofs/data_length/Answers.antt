@@ -14,4 +14,6 @@ pub returns-then-r-eq1 : goal.returns-then-r-eq1
 returns-then-r-eq1 c = omega (arith, ap length (remote_data c.args.r c.if-r-eq1.true))
 
 pub returns : goal.returns
-returns c = let r = c.args.r in omega (arith, ap (λ fs. length (spaced fs)) (data_bytes r c.if-r-eq1.false), length_bytes Capital (256 ^ 7) r.len r.«data»)
+returns c =
+    let r = c.args.r in
+    omega (arith, ap (λ fs. length (spaced fs)) (data_bytes r c.if-r-eq1.false), length_bytes Capital (256 ^ 7) r.len r.«data»)

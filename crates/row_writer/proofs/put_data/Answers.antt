@@ -30,4 +30,4 @@ put_pairs-requires c =
 pub returns : goal.returns
 returns c =
     let e = data_bytes c.args.r c.if-r-eq1.false in
-    rw e (c.put_pairs.ensures Capital c.requires.1)
+    rw e (c.put_pairs.ensures Capital c.requires.pairs_of)

@@ -6,7 +6,7 @@ use Rattle.row_writer.proofs.Columns.{length_number}
 use Rattle.row_writer.proofs.put_number.Goals as goal
 
 pub put_kept-p-requires : goal.put_kept-p-requires
-put_kept-p-requires c = (c.requires.1, omega (arith, length_number c.args.k))
+put_kept-p-requires c = record { kept = c.requires.kept; n_in_bounds = omega (arith, length_number c.args.k) }
 
 pub put_byte-requires : goal.put_byte-requires
 put_byte-requires c = omega (arith, length_number c.args.k)

@@ -5,12 +5,19 @@ use Rattle.row_writer.proofs.Rows.{row_cut, row_length_lem}
 use Rattle.row_writer.proofs.put_row.Goals as goal
 
 pub put_head-p-requires : goal.put_head-p-requires
-put_head-p-requires c = (omega (arith, row_length_lem c.args.version c.args.k c.args.r), (c.requires.1.1.0, c.requires.1.1.1.0))
+put_head-p-requires c = record {
+  r_in_bounds = omega (arith, row_length_lem c.args.version c.args.k c.args.r);
+  kept = c.requires.kept;
+  kept_2 = c.requires.kept_2;
+}
 
 pub put_frame-requires : goal.put_frame-requires
 put_frame-requires c =
     let a = c.args in
-    ((c.requires.0.0, omega (arith, row_length_lem a.version a.k a.r)), c.requires.1.1.1.1)
+    record {
+      well_formed = (c.requires.well_formed.0, omega (arith, row_length_lem a.version a.k a.r));
+      pairs_of = c.requires.pairs_of;
+    }
 
 pub returns : goal.returns
 returns c =

@@ -9,40 +9,40 @@ pub bus-requires : goal.bus-requires
 bus-requires c = asked c.args.p c.in-Bus.is c.requires
 
 pub type_column-requires : goal.type_column-requires
-type_column-requires c = asked c.args.p c.enum_told-in-TypeColumn-1.given.1 c.requires
+type_column-requires c = asked c.args.p c.in-TypeColumn.is c.requires
 
 pub id-requires : goal.id-requires
-id-requires c = asked_hex c.args.p c.enum_told-in-Id-1.given.1 c.requires
+id-requires c = asked_hex c.args.p c.in-Id.is c.requires
 
 pub length-requires : goal.length-requires
-length-requires c = asked c.args.p c.enum_told-in-Length-1.given.1 c.requires
+length-requires c = asked c.args.p c.in-Length.is c.requires
 
 pub data-requires : goal.data-requires
-data-requires c = asked_hex c.args.p c.enum_told-in-Data-1.given.1 c.requires
+data-requires c = asked_hex c.args.p c.in-Data.is c.requires
 
 pub bytes-requires : goal.bytes-requires
-bytes-requires c = asked_hex c.args.p c.enum_told-in-Bytes-1.given.1 c.requires
+bytes-requires c = asked_hex c.args.p c.in-Bytes.is c.requires
 
 pub warning_id-requires : goal.warning_id-requires
-warning_id-requires c = asked_hex c.args.p c.enum_told-in-WarningId-1.given.1 c.requires
+warning_id-requires c = asked_hex c.args.p c.in-WarningId.is c.requires
 
 pub warning_length-requires : goal.warning_length-requires
-warning_length-requires c = asked c.args.p c.enum_told-in-WarningLength-1.given.1 c.requires
+warning_length-requires c = asked c.args.p c.in-WarningLength.is c.requires
 
 pub warning_bytes-requires : goal.warning_bytes-requires
-warning_bytes-requires c = asked_hex c.args.p c.enum_told-in-WarningBytes-1.given.1 c.requires
+warning_bytes-requires c = asked_hex c.args.p c.in-WarningBytes.is c.requires
 
 pub error_id-requires : goal.error_id-requires
-error_id-requires c = asked_hex c.args.p c.enum_told-in-ErrorId-1.given.1 c.requires
+error_id-requires c = asked_hex c.args.p c.in-ErrorId.is c.requires
 
 pub error_length-requires : goal.error_length-requires
-error_length-requires c = asked c.args.p c.enum_told-in-ErrorLength-1.given.1 c.requires
+error_length-requires c = asked c.args.p c.in-ErrorLength.is c.requires
 
 pub error_first-requires : goal.error_first-requires
-error_first-requires c = asked_hex c.args.p c.enum_told-in-ErrorFirst-1.given.1 c.requires
+error_first-requires c = asked_hex c.args.p c.in-ErrorFirst.is c.requires
 
 pub error_second-requires : goal.error_second-requires
-error_second-requires c = asked_hex c.args.p c.enum_told-in-ErrorSecond-1.given.1 c.requires
+error_second-requires c = asked_hex c.args.p c.in-ErrorSecond.is c.requires
 
 pub returns-in-Offset : goal.returns-in-Offset
 returns-in-Offset c = answered c.args.p c.in-Offset.is c.offset.ensures
@@ -51,37 +51,37 @@ pub returns-in-Bus : goal.returns-in-Bus
 returns-in-Bus c = answered c.args.p c.in-Bus.is c.bus.ensures
 
 pub returns-in-TypeColumn : goal.returns-in-TypeColumn
-returns-in-TypeColumn c = answered c.args.p c.enum_told-in-TypeColumn-1.given.1 c.type_column.ensures
+returns-in-TypeColumn c = answered c.args.p c.in-TypeColumn.is c.type_column.ensures
 
 pub returns-in-Id : goal.returns-in-Id
-returns-in-Id c = answered c.args.p c.enum_told-in-Id-1.given.1 c.id.ensures
+returns-in-Id c = answered c.args.p c.in-Id.is c.id.ensures
 
 pub returns-in-Length : goal.returns-in-Length
-returns-in-Length c = answered c.args.p c.enum_told-in-Length-1.given.1 c.length.ensures
+returns-in-Length c = answered c.args.p c.in-Length.is c.length.ensures
 
 pub returns-in-Data : goal.returns-in-Data
-returns-in-Data c = answered c.args.p c.enum_told-in-Data-1.given.1 c.«data».ensures
+returns-in-Data c = answered c.args.p c.in-Data.is c.«data».ensures
 
 pub returns-in-Bytes : goal.returns-in-Bytes
-returns-in-Bytes c = answered c.args.p c.enum_told-in-Bytes-1.given.1 c.bytes.ensures
+returns-in-Bytes c = answered c.args.p c.in-Bytes.is c.bytes.ensures
 
 pub returns-in-WarningId : goal.returns-in-WarningId
-returns-in-WarningId c = answered c.args.p c.enum_told-in-WarningId-1.given.1 c.warning_id.ensures
+returns-in-WarningId c = answered c.args.p c.in-WarningId.is c.warning_id.ensures
 
 pub returns-in-WarningLength : goal.returns-in-WarningLength
-returns-in-WarningLength c = answered c.args.p c.enum_told-in-WarningLength-1.given.1 c.warning_length.ensures
+returns-in-WarningLength c = answered c.args.p c.in-WarningLength.is c.warning_length.ensures
 
 pub returns-in-WarningBytes : goal.returns-in-WarningBytes
-returns-in-WarningBytes c = answered c.args.p c.enum_told-in-WarningBytes-1.given.1 c.warning_bytes.ensures
+returns-in-WarningBytes c = answered c.args.p c.in-WarningBytes.is c.warning_bytes.ensures
 
 pub returns-in-ErrorId : goal.returns-in-ErrorId
-returns-in-ErrorId c = answered c.args.p c.enum_told-in-ErrorId-1.given.1 c.error_id.ensures
+returns-in-ErrorId c = answered c.args.p c.in-ErrorId.is c.error_id.ensures
 
 pub returns-in-ErrorLength : goal.returns-in-ErrorLength
-returns-in-ErrorLength c = answered c.args.p c.enum_told-in-ErrorLength-1.given.1 c.error_length.ensures
+returns-in-ErrorLength c = answered c.args.p c.in-ErrorLength.is c.error_length.ensures
 
 pub returns-in-ErrorFirst : goal.returns-in-ErrorFirst
-returns-in-ErrorFirst c = answered c.args.p c.enum_told-in-ErrorFirst-1.given.1 c.error_first.ensures
+returns-in-ErrorFirst c = answered c.args.p c.in-ErrorFirst.is c.error_first.ensures
 
 pub returns-in-ErrorSecond : goal.returns-in-ErrorSecond
-returns-in-ErrorSecond c = answered c.args.p c.enum_told-in-ErrorSecond-1.given.1 c.error_second.ensures
+returns-in-ErrorSecond c = answered c.args.p c.in-ErrorSecond.is c.error_second.ensures

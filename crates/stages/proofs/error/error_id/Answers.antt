@@ -13,12 +13,17 @@ pub overflow_sub-e : goal.overflow_sub-e
 overflow_sub-e c = let g = (got c.hex_field-s.ensures c.if-e-eq0.false).place in omega arith
 
 pub returns-then-e-at-ne4 : goal.returns-then-e-at-ne4
-returns-then-e-at-ne4 c = error_id_barred c.args.p _ c.wrong-then-e-at-ne4.ensures (λ e v. c.if-e-at-ne4.true e) (got c.hex_field-s.ensures c.if-e-eq0.false)
+returns-then-e-at-ne4 c =
+    error_id_barred c.args.p _ c.wrong-then-e-at-ne4.ensures (λ e v. c.if-e-at-ne4.true e) (got c.hex_field-s.ensures c.if-e-eq0.false)
 
 pub returns-then-not-error_id : goal.returns-then-not-error_id
-returns-then-not-error_id c = error_id_barred c.args.p _ c.wrong-then-not-error_id.ensures (λ e. refuted c.error_id.result c.if-not-error_id.true c.error_id.ensures) (got c.hex_field-s.ensures c.if-e-eq0.false)
+returns-then-not-error_id c =
+    let g = got c.hex_field-s.ensures c.if-e-eq0.false in
+    error_id_barred c.args.p _ c.wrong-then-not-error_id.ensures (λ e. refuted c.error_id.result c.if-not-error_id.true c.error_id.ensures) g
 
 pub returns : goal.returns
 returns c =
+    let g = got c.hex_field-s.ensures c.if-e-eq0.false in
+    let b = shown c.error_id.result c.if-not-error_id.false c.error_id.ensures in
     rw c.known.ensures
-    (error_id_went c.args.p _ refl refl refl c.requires.1 c.if-e-at-ne4.false (shown c.error_id.result c.if-not-error_id.false c.error_id.ensures) (got c.hex_field-s.ensures c.if-e-eq0.false))
+    (error_id_went c.args.p _ refl refl refl c.requires.1 c.if-e-at-ne4.false b g)

@@ -8,7 +8,10 @@ pub returns-then-e-eq0 : goal.returns-then-e-eq0
 returns-then-e-eq0 c = refused _ c.length_field-s.ensures c.if-e-eq0.true c.wrong.ensures (λ f fs r h. (4, (after_error_length h.2).1))
 
 pub returns-then-s-ne4 : goal.returns-then-s-ne4
-returns-then-s-ne4 c = error_length_barred c.args.p _ c.wrong-then-s-ne4.ensures c.if-s-ne4.true (got c.length_field-s.ensures c.if-e-eq0.false)
+returns-then-s-ne4 c =
+    error_length_barred c.args.p _ c.wrong-then-s-ne4.ensures c.if-s-ne4.true (got c.length_field-s.ensures c.if-e-eq0.false)
 
 pub returns : goal.returns
-returns c = rw c.known.ensures (error_length_went c.args.p _ refl refl refl c.requires.1 c.if-s-ne4.false (got c.length_field-s.ensures c.if-e-eq0.false))
+returns c =
+    let g = got c.length_field-s.ensures c.if-e-eq0.false in
+    rw c.known.ensures (error_length_went c.args.p _ refl refl refl c.requires.1 c.if-s-ne4.false g)

@@ -13,7 +13,8 @@ pub overflow_mul-r : goal.overflow_mul-r
 overflow_mul-r c = omega (arith, c.requires, byte_fits c.args.p.place (got c.byte_field-s.ensures c.if-e-eq0.false).has)
 
 pub overflow_add-r : goal.overflow_add-r
-overflow_add-r c = omega (arith, c.requires, c.struct_known-2-1.given, byte_fits c.args.p.place (got c.byte_field-s.ensures c.if-e-eq0.false).has)
+overflow_add-r c =
+    omega (arith, c.requires, byte_fits c.args.p.place (got c.byte_field-s.ensures c.if-e-eq0.false).has)
 
 pub returns : goal.returns
 returns c = byted c.args.p (got c.byte_field-s.ensures c.if-e-eq0.false) c.bytes_left.ensures

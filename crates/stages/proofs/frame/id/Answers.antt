@@ -17,4 +17,6 @@ returns-then-x-gt1 c =
     id_barred c.args.p (got c.hex_field-s.ensures c.if-e-eq0.false) _ c.wrong-then-x-gt1.ensures u.0 u.1
 
 pub returns : goal.returns
-returns c = rw c.known.ensures (id_went c.args.p (got c.hex_field-s.ensures c.if-e-eq0.false) _ c.requires.1.0 refl refl refl c.requires.1.1 (formed c.form-x.ensures c.if-x-gt1.false))
+returns c =
+    let g = got c.hex_field-s.ensures c.if-e-eq0.false in
+    rw c.known.ensures (id_went c.args.p g _ c.requires.1.0 refl refl refl c.requires.1.1 (formed c.form-x.ensures c.if-x-gt1.false))

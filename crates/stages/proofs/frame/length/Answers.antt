@@ -8,4 +8,6 @@ pub returns-then-e-eq0 : goal.returns-then-e-eq0
 returns-then-e-eq0 c = refused _ c.length_field-s.ensures c.if-e-eq0.true c.wrong.ensures (λ f fs r h. (r.len, (after_length h.1).0))
 
 pub returns : goal.returns
-returns c = rw c.bytes_left.ensures (length_went c.args.p _ c.requires.1.0 refl refl refl c.requires.1.1 (got c.length_field-s.ensures c.if-e-eq0.false))
+returns c =
+    let g = got c.length_field-s.ensures c.if-e-eq0.false in
+    rw c.bytes_left.ensures (length_went c.args.p _ c.requires.1.0 refl refl refl c.requires.1.1 g)

@@ -9,10 +9,16 @@ pub offset_field-s-requires : goal.offset_field-s-requires
 offset_field-s-requires c = (c.requires.0, rw c.fraction_digits.ensures (digits_known c.args.version))
 
 pub returns-then-e-eq0 : goal.returns-then-e-eq0
-returns-then-e-eq0 c = refused _ (rw c.fraction_digits.ensures at c.offset_field-s.ensures) c.if-e-eq0.true c.wrong.ensures (λ f fs r h. (r.offset, (after_offset h).0))
+returns-then-e-eq0 c =
+    let f = rw c.fraction_digits.ensures at c.offset_field-s.ensures in
+    refused _ f c.if-e-eq0.true c.wrong.ensures (λ f fs r h. (r.offset, (after_offset h).0))
 
 pub returns-then-has_bus : goal.returns-then-has_bus
-returns-then-has_bus c = rw c.known.ensures (offset_bus_went c.args.p c.requires.1.0 (got (rw c.fraction_digits.ensures at c.offset_field-s.ensures) c.if-e-eq0.false) (sym c.has_bus.ensures ∙ c.if-has_bus.true) _ refl c.requires.1.1)
+returns-then-has_bus c =
+    let g = got (rw c.fraction_digits.ensures at c.offset_field-s.ensures) c.if-e-eq0.false in
+    rw c.known.ensures (offset_bus_went c.args.p c.requires.1.0 g (sym c.has_bus.ensures ∙ c.if-has_bus.true) _ refl c.requires.1.1)
 
 pub returns : goal.returns
-returns c = rw c.known-2.ensures (offset_went c.args.p c.requires.1.0 (got (rw c.fraction_digits.ensures at c.offset_field-s.ensures) c.if-e-eq0.false) (sym c.has_bus.ensures ∙ c.if-has_bus.false) _ refl refl c.requires.1.1)
+returns c =
+    let g = got (rw c.fraction_digits.ensures at c.offset_field-s.ensures) c.if-e-eq0.false in
+    rw c.known-2.ensures (offset_went c.args.p c.requires.1.0 g (sym c.has_bus.ensures ∙ c.if-has_bus.false) _ refl refl c.requires.1.1)

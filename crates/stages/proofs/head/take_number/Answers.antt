@@ -11,4 +11,6 @@ pub returns-then-s-k : goal.returns-then-s-k
 returns-then-s-k c = number_barred _ (got c.number_field-s.ensures c.if-e-eq0.false) c.wrong-then-s-k.ensures c.if-s-k.true
 
 pub returns : goal.returns
-returns c = rw c.known.ensures (number_went _ (got c.number_field-s.ensures c.if-e-eq0.false) refl c.if-s-k.false (c.requires.1, c.no_record-r.ensures) (λ fs r. refl))
+returns c =
+    let g = got c.number_field-s.ensures c.if-e-eq0.false in
+    rw c.known.ensures (number_went _ g refl c.if-s-k.false (c.requires.1, c.no_record-r.ensures) (λ fs r. refl))

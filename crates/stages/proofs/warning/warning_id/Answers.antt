@@ -12,12 +12,18 @@ pub overflow_sub-e : goal.overflow_sub-e
 overflow_sub-e c = let g = (got c.hex_field-s.ensures c.if-e-eq0.false).place in omega arith
 
 pub returns-then-e-at-ne8 : goal.returns-then-e-at-ne8
-returns-then-e-at-ne8 c = warning_id_barred c.args.p _ c.wrong-then-e-at-ne8.ensures (λ e v. c.if-e-at-ne8.true e) (got c.hex_field-s.ensures c.if-e-eq0.false)
+returns-then-e-at-ne8 c =
+    let g = got c.hex_field-s.ensures c.if-e-eq0.false in
+    warning_id_barred c.args.p _ c.wrong-then-e-at-ne8.ensures (λ e v. c.if-e-at-ne8.true e) g
 
 pub returns-then-s-ne4294967295 : goal.returns-then-s-ne4294967295
-returns-then-s-ne4294967295 c = warning_id_barred c.args.p _ c.wrong-then-s-ne4294967295.ensures (λ e v. c.if-s-ne4294967295.true v) (got c.hex_field-s.ensures c.if-e-eq0.false)
+returns-then-s-ne4294967295 c =
+    let g = got c.hex_field-s.ensures c.if-e-eq0.false in
+    warning_id_barred c.args.p _ c.wrong-then-s-ne4294967295.ensures (λ e v. c.if-s-ne4294967295.true v) g
 
 pub returns : goal.returns
 returns c =
+    let g = got c.hex_field-s.ensures c.if-e-eq0.false in
     rw c.known.ensures
-    (warning_id_went c.args.p _ refl refl (record { extended = refl; id = refl; len = refl }) c.requires.1 c.if-e-at-ne8.false c.if-s-ne4294967295.false (got c.hex_field-s.ensures c.if-e-eq0.false))
+    (warning_id_went c.args.p _ refl refl (record { extended = refl; id = refl; len = refl }) c.requires.1
+    c.if-e-at-ne8.false c.if-s-ne4294967295.false g)
