@@ -5,23 +5,14 @@ use Rattle.base.specs.Limits.{offset_digits}
 use Rattle.digits.proofs.Strings.{decimal}
 use Rattle.fields.proofs.Scans.{decimal_solid}
 use Rattle.fields.proofs.Window.{inside}
-use Rattle.fields.proofs.Digits.{none_passed, one_passed, room, stopped, all_passed, below_zero, above_nine}
+use Rattle.fields.proofs.Digits.{none_passed, one_passed, room}
 use Rattle.fields.proofs.decimal.Goals as goal
 
 pub loop-i-init : goal.loop-i-init
 loop-i-init c = none_passed c.requires
 
-pub overflow_add-at : goal.overflow_add-at
-overflow_add-at c = omega (arith, inside c.args.w.now c.args.at c.requires)
-
 pub bounds-bytes-i : goal.bounds-bytes-i
 bounds-bytes-i c = inside _ _ c.loop-i.invariant.lined
-
-pub returns-then-b-lt48 : goal.returns-then-b-lt48
-returns-then-b-lt48 c = stopped c.loop-i.invariant (below_zero (omega arith))
-
-pub returns-then-b-gt57 : goal.returns-then-b-gt57
-returns-then-b-gt57 c = stopped c.loop-i.invariant (above_nine (omega arith))
 
 pub overflow_mul-n : goal.overflow_mul-n
 overflow_mul-n c = let r = room decimal (offset_digits - 1) (omega arith) c.loop-i.invariant (omega arith) in omega arith
@@ -29,13 +20,7 @@ overflow_mul-n c = let r = room decimal (offset_digits - 1) (omega arith) c.loop
 pub overflow_add-n : goal.overflow_add-n
 overflow_add-n c = let r = room decimal (offset_digits - 1) (omega arith) c.loop-i.invariant (omega arith) in omega arith
 
-pub overflow_add-i : goal.overflow_add-i
-overflow_add-i c = let l = c.loop-i in omega (arith, inside _ l.i l.invariant.lined)
-
 pub loop-i-preserved : goal.loop-i-preserved
 loop-i-preserved c =
     let l = c.loop-i in
     one_passed decimal_solid l.invariant (omega arith) (record { value = omega arith; byte = omega arith })
-
-pub returns : goal.returns
-returns c = all_passed c.loop-i.invariant (omega arith)

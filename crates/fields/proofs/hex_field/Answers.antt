@@ -6,14 +6,8 @@ use Rattle.fields.proofs.Window.{inside}
 use Rattle.fields.proofs.DigitFields.{hex_shape, hex_accept}
 use Rattle.fields.proofs.hex_field.Goals as goal
 
-pub hexadecimal-s-requires : goal.hexadecimal-s-requires
-hexadecimal-s-requires c = (c.requires.0.lined, c.requires.1)
-
 pub returns-then-e-at : goal.returns-then-e-at
 returns-then-e-at c = not c.none.ensures (λ f rest a v p. let h = hex_shape c.hexadecimal-s.ensures a p in omega arith)
-
-pub overflow_add-at : goal.overflow_add-at
-overflow_add-at c = omega (arith, inside c.args.w.now c.args.at c.requires.0.lined)
 
 pub returns-then-at-e : goal.returns-then-at-e
 returns-then-at-e c = not c.none-then-at-e.ensures (λ f rest a v p. let h = hex_shape c.hexadecimal-s.ensures a p in omega arith)
@@ -22,7 +16,15 @@ pub bounds-bytes-e : goal.bounds-bytes-e
 bounds-bytes-e c = inside _ _ c.hexadecimal-s.ensures.lined
 
 pub returns-then-not-ends : goal.returns-then-not-ends
-returns-then-not-ends c = not c.none-then-not-ends.ensures (λ f rest a v p. let h = hex_shape c.hexadecimal-s.ensures a p in refuted c.ends.result c.if-not-ends.true c.ends.ensures h.stop)
+returns-then-not-ends c =
+    not c.none-then-not-ends.ensures (λ f rest a v p.
+    let h = hex_shape c.hexadecimal-s.ensures a p in refuted c.ends.result c.if-not-ends.true c.ends.ensures h.stop)
 
 pub returns : goal.returns
-returns c = hex_accept c.hexadecimal-s.ensures (record { some = let l = c.hexadecimal-s.ensures.from in omega arith; few = omega arith; stop = shown c.ends.result c.if-not-ends.false c.ends.ensures })
+returns c =
+    hex_accept c.hexadecimal-s.ensures
+    (record {
+      some = let l = c.hexadecimal-s.ensures.from in omega arith;
+      few = omega arith;
+      stop = shown c.ends.result c.if-not-ends.false c.ends.ensures;
+    })

@@ -14,49 +14,35 @@ use Rattle.fields.proofs.offset_field.Goals.{then-bytes-at-eq48+else-at-e, else-
 three : {digits : ℕ} → (digits ≡ 1) ⊎ (digits ≡ 3) → digits ≤ 3
 three h = ⊎_elim (λ e. omega arith) (λ e. omega arith) h
 
-pub decimal-s-requires : goal.decimal-s-requires
-decimal-s-requires c = c.requires.0.lined
-
 pub returns-then-e-at : goal.returns-then-e-at
 returns-then-e-at c = not c.none.ensures (λ f rest a v p. let h = offset_shape (three c.requires.1) c.decimal-s.ensures a p in omega arith)
 
-pub bounds-bytes-at : goal.bounds-bytes-at
-bounds-bytes-at c = inside c.args.w.now c.args.at c.requires.0.lined
-
-pub overflow_add-at : goal.overflow_add-at
-overflow_add-at c = omega (arith, inside c.args.w.now c.args.at c.requires.0.lined)
-
 pub returns-then-at-e : goal.returns-then-at-e
-returns-then-at-e c = not c.none-then-at-e.ensures (λ f rest a v p. (offset_shape (three c.requires.1) c.decimal-s.ensures a p).lead c.if-at-e.true c.if-bytes-at-eq48.true)
+returns-then-at-e c =
+    not c.none-then-at-e.ensures (λ f rest a v p.
+    (offset_shape (three c.requires.1) c.decimal-s.ensures a p).lead c.if-at-e.true c.if-bytes-at-eq48.true)
 
 pub bounds-bytes-e : goal.bounds-bytes-e
 bounds-bytes-e c = inside c.args.w.now c.decimal-s.result.end c.decimal-s.ensures.lined
 
 pub returns-then-bytes-e-ne46 : goal.returns-then-bytes-e-ne46
-returns-then-bytes-e-ne46 c = not c.none-then-bytes-e-ne46.ensures (λ f rest a v p. c.if-bytes-e-ne46.true (offset_shape (three c.requires.1) c.decimal-s.ensures a p).point)
-
-pub overflow_add-e : goal.overflow_add-e
-overflow_add-e c = omega (arith, inside c.args.w.now c.decimal-s.result.end c.decimal-s.ensures.lined)
+returns-then-bytes-e-ne46 c =
+    not c.none-then-bytes-e-ne46.ensures (λ f rest a v p.
+    c.if-bytes-e-ne46.true (offset_shape (three c.requires.1) c.decimal-s.ensures a p).point)
 
 pub decimal-t-requires : goal.decimal-t-requires
 decimal-t-requires c = goes_on c.args.w.now c.decimal-s.result.end 46 c.decimal-s.ensures.lined c.if-bytes-e-ne46.false (omega arith)
 
-pub overflow_sub-f : goal.overflow_sub-f
-overflow_sub-f c = let f = c.decimal-t.ensures.from in omega arith
-
-pub overflow_add-digits : goal.overflow_add-digits
-overflow_add-digits c = omega (arith, three c.requires.1)
-
 pub returns-then-f-e : goal.returns-then-f-e
-returns-then-f-e c = not c.none-then-f-e.ensures (λ f rest a v p. let h = (offset_shape (three c.requires.1) c.decimal-s.ensures a p).tail c.decimal-t.ensures in c.if-f-e.true (omega arith))
-
-pub bounds-bytes-f : goal.bounds-bytes-f
-bounds-bytes-f c = inside c.args.w.now c.decimal-t.result.end c.decimal-t.ensures.lined
+returns-then-f-e c =
+    not c.none-then-f-e.ensures (λ f rest a v p.
+    let h = (offset_shape (three c.requires.1) c.decimal-s.ensures a p).tail c.decimal-t.ensures in c.if-f-e.true (omega arith))
 
 pub returns-then-not-ends : goal.returns-then-not-ends
 returns-then-not-ends c =
     not c.none-then-not-ends.ensures (λ f rest a v p.
-    refuted c.ends.result c.if-not-ends.true c.ends.ensures ((offset_shape (three c.requires.1) c.decimal-s.ensures a p).tail c.decimal-t.ensures).stop)
+    refuted c.ends.result c.if-not-ends.true c.ends.ensures
+    ((offset_shape (three c.requires.1) c.decimal-s.ensures a p).tail c.decimal-t.ensures).stop)
 
 pub overflow_mul-value : goal.overflow_mul-value
 overflow_mul-value c = omega (arith, scan_below c.decimal-s.ensures)
@@ -76,10 +62,15 @@ returns-then-value-gt-OFFSET_LIMIT c =
 
 pub returns : goal.returns
 returns c =
-    let e : c.decimal-s.result.value * 1000 + c.micros.result ≡ c.decimal-s.result.value * 1000 + c.decimal-t.result.value * 10 ^ (3 - c.args.digits) =
-    ap (λ (n : ℕ). c.decimal-s.result.value * 1000 + n) c.micros.ensures.0 in
+    let s = c.decimal-s.result.value in
+    let e : s * 1000 + c.micros.result ≡ s * 1000 + c.decimal-t.result.value * 10 ^ (3 - c.args.digits) =
+    ap (λ (n : ℕ). s * 1000 + n) c.micros.ensures.0 in
     let f = c.decimal-s.ensures.from in
     let g = c.decimal-t.ensures.from in
     offset_accept _ c.decimal-s.ensures c.decimal-t.ensures (omega arith)
-    (λ l z. elim c.if-bytes-at-eq48.branch [ then-bytes-at-eq48+else-at-e w ↦ absurd (omega arith) | else-bytes-at-eq48 w ↦ w.if-bytes-at-eq48.false z ]) c.if-bytes-e-ne46.false
+    (λ l z. elim c.if-bytes-at-eq48.branch [
+      | then-bytes-at-eq48+else-at-e w ↦ absurd (omega arith)
+      | else-bytes-at-eq48 w ↦ w.if-bytes-at-eq48.false z
+    ])
+    c.if-bytes-e-ne46.false
     (record { width = omega arith; stop = shown c.ends.result c.if-not-ends.false c.ends.ensures; within = rw (← e) (omega arith) }) e

@@ -1,37 +1,30 @@
 -- `fields::short_type` reads the byte behind the first, and what ends the field.
-use mathlib.Core.Path.{refl, ap}
-use mathlib.Core.List.{[]}
+use Prim.Native.Nat.{ℕ, ◌+◌}
+use mathlib.Core.Path.{◌≡◌, refl, ap}
+use mathlib.Core.List.{List, [], ◌∷◌}
 use native.Mathlib.Omega.{arith}
-use lib.ListN.{length}
-use Rattle.fields.specs.inner.Window.{taken, not}
-use Rattle.fields.proofs.FixedFields.{first, then, here, ended, unended, not_then, solid_at}
+use lib.ListN.{length, get_or}
+use Rattle.fields.specs.inner.Window.{Starts, taken, not}
+use Rattle.fields.proofs.FixedFields.{StandsAt, first, then, here, ended, unended, solid_at}
 use Rattle.fields.proofs.short_type.Goals as goal
 
-pub overflow_add-at : goal.overflow_add-at
-overflow_add-at c = omega (arith, here (first c.requires refl))
+-- the byte that stands there, and an x behind it
+two : {w : List ℕ} {at : ℕ} → Starts w at → get_or w (at + 1) 0 ≡ 120 → StandsAt (get_or w at 0 ∷ 120 ∷ []) w at
+two s e = then (first s refl) (solid_at 120 (omega arith)) e
 
 pub bounds-bytes-at : goal.bounds-bytes-at
 bounds-bytes-at c = omega (arith, here (first c.requires refl))
 
-pub returns-then-bytes-at-ne120 : goal.returns-then-bytes-at-ne120
-returns-then-bytes-at-ne120 c = not c.none.ensures (λ f rest a v p. not_then [] (first c.requires refl) c.if-bytes-at-ne120.true a p.0)
-
-pub overflow_add-at-2 : goal.overflow_add-at-2
-overflow_add-at-2 c = omega (arith, here ((then (first c.requires refl) (solid_at 120 (omega arith)) c.if-bytes-at-ne120.false)))
-
 pub bounds-bytes-at-2 : goal.bounds-bytes-at-2
-bounds-bytes-at-2 c = omega (arith, here ((then (first c.requires refl) (solid_at 120 (omega arith)) c.if-bytes-at-ne120.false)))
+bounds-bytes-at-2 c = omega (arith, here (two c.requires c.if-bytes-at-ne120.false))
 
 pub returns-then-not-ends : goal.returns-then-not-ends
 returns-then-not-ends c =
     let e = c.ends in
     not c.none-then-not-ends.ensures (λ f rest a v p.
-    unended ((then (first c.requires refl) (solid_at 120 (omega arith)) c.if-bytes-at-ne120.false)) e.result e.ensures c.if-not-ends.true a (ap length p.0))
-
-pub overflow_add-result : goal.overflow_add-result
-overflow_add-result c = omega (arith, here ((then (first c.requires refl) (solid_at 120 (omega arith)) c.if-bytes-at-ne120.false)))
+    unended (two c.requires c.if-bytes-at-ne120.false) e.result e.ensures c.if-not-ends.true a (ap length p.0))
 
 pub returns : goal.returns
 returns c =
     let e = c.ends in
-    taken (ended ((then (first c.requires refl) (solid_at 120 (omega arith)) c.if-bytes-at-ne120.false)) (omega arith) e.result e.ensures c.if-not-ends.false) refl (refl, refl)
+    taken (ended (two c.requires c.if-bytes-at-ne120.false) (omega arith) e.result e.ensures c.if-not-ends.false) refl (refl, refl)

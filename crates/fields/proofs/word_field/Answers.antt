@@ -19,19 +19,10 @@ returns-then-bytes-i-lt65 c =
     not c.none.ensures (λ f rest a v p.
     no_word c.loop-bytes.invariant (is_solid c.ends.result c.ends.ensures c.loop-bytes-test.true) (λ q. omega arith) a p)
 
-pub bounds-bytes-i-in-loop-bytes-2 : goal.bounds-bytes-i-in-loop-bytes-2
-bounds-bytes-i-in-loop-bytes-2 c = behind c.loop-bytes.invariant
-
 pub returns-then-bytes-i-gt90 : goal.returns-then-bytes-i-gt90
 returns-then-bytes-i-gt90 c =
     not c.none-then-bytes-i-gt90.ensures (λ f rest a v p.
     no_word c.loop-bytes.invariant (is_solid c.ends.result c.ends.ensures c.loop-bytes-test.true) (λ q. omega arith) a p)
-
-pub overflow_add-i : goal.overflow_add-i
-overflow_add-i c = omega (arith, behind c.loop-bytes.invariant)
-
-pub loop-bytes-smaller : goal.loop-bytes-smaller
-loop-bytes-smaller c = omega (arith, behind c.loop-bytes.invariant)
 
 pub loop-bytes-preserved : goal.loop-bytes-preserved
 loop-bytes-preserved c = more_capitals c.loop-bytes.invariant c.if-bytes-i-lt65.false c.if-bytes-i-gt90.false

@@ -3,26 +3,14 @@ use Prim.Native.Nat.{◌%◌}
 use native.Mathlib.Omega.{arith}
 use lib.Dec.{eqb}
 use Rattle.base.proofs.Tests.{same_test, equal}
-use Rattle.row.proofs.EachVersion.{carried_11, carries_11, carried_12, carries_12}
+use Rattle.row.proofs.EachVersion.{carried_11, carries_11, carries_12}
 use Rattle.row.proofs.versions.carries.Goals as goal
-
-pub returns-then-r-ne0 : goal.returns-then-r-ne0
-returns-then-r-ne0 c = λ h. c.if-r-ne0.true (carried_11 c.if-version-eq11.true h).0
 
 pub returns-then-version-eq11 : goal.returns-then-version-eq11
 returns-then-version-eq11 c =
     let r = c.args.r in
     let e = c.if-version-eq11.true in
     same_test (eqb (r.offset % 100) 0) (λ z. carries_11 e c.if-r-ne0.false z) (λ h. (carried_11 e h).1) (equal (r.offset % 100) 0)
-
-pub returns-then-version-ne12 : goal.returns-then-version-ne12
-returns-then-version-ne12 c = λ h. c.if-version-ne12.true (carried_12 c.if-version-eq11.false h).0
-
-pub returns-then-r-eq0 : goal.returns-then-r-eq0
-returns-then-r-eq0 c = λ h. let k = (carried_12 c.if-version-eq11.false h).1 in omega (arith, c.if-r-eq0.true)
-
-pub returns-then-r-gt-LAST_BUS : goal.returns-then-r-gt-LAST_BUS
-returns-then-r-gt-LAST_BUS c = λ h. let k = (carried_12 c.if-version-eq11.false h).2 in omega (arith, c.if-r-gt-LAST_BUS.true)
 
 pub returns : goal.returns
 returns c = carries_12 c.if-version-ne12.false (omega (arith, c.if-r-eq0.false)) (omega (arith, c.if-r-gt-LAST_BUS.false))
