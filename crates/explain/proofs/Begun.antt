@@ -77,9 +77,9 @@ module _ {r : Record} where
       rw (kept_some fs (hex_some (omega arith) h), kept_some gs (length_some l)) (Row.warning_id k x h (Row.warning_length l (bytes (λ gs. words) b)))
 
   failed : {fs : List (List ℕ)} → Row.ErrorIdField r fs → Row.ErrorIdField r (kept fs)
-  failed (Row.error_id_lem {fs = fs} k x h i (Row.error_length {fs = gs} n l (Row.first {fs = hs} f z (Row.second {fs = is} g p q w) u))) =
+  failed (Row.error_id {fs = fs} k x h i (Row.error_length {fs = gs} n l (Row.first {fs = hs} f z (Row.second {fs = is} g p q w) u))) =
       rw (kept_some fs (hex_some (omega arith) h), kept_some gs (length_some l), kept_some hs (byte_some f), kept_some is (byte_some g))
-      (Row.error_id_lem k x h i (Row.error_length n l (Row.first f z (Row.second g p (bytes (λ gs. nothing) q) w) u)))
+      (Row.error_id k x h i (Row.error_length n l (Row.first f z (Row.second g p (bytes (λ gs. nothing) q) w) u)))
 
   type : {fs : List (List ℕ)} → Row.FromType r fs → Row.FromType r (kept fs)
   type (Row.rx {fs = fs} e h) = rw (kept_some fs (type_some (rx e))) (Row.rx e (frame h))

@@ -114,7 +114,7 @@ can_end_at stage.WarningBytes p g =
     record { fields = _; r = p.r; ends = record { known = refl; sum = 0; bytes = (zeros Row.none p.place p.left).1; total = sym (add-zero p.r.«data») } }
 can_end_at stage.ErrorId p g =
     let w = failed p.r.offset p.r.bus 0 1 in
-    record { fields = _; r = _; ends = (refl, Row.error_id_lem refl refl (hex_spells Capital 4 1 (omega arith)) (one refl) w.ends) }
+    record { fields = _; r = _; ends = (refl, Row.error_id refl refl (hex_spells Capital 4 1 (omega arith)) (one refl) w.ends) }
 can_end_at stage.ErrorLength p g =
     let w = failed p.r.offset p.r.bus p.r.extended p.r.id in record { fields = _; r = _; ends = (refl, refl, w.ends) }
 can_end_at stage.ErrorFirst p g = record { fields = _; r = with_data p.r (2 * 256 ^ 6); ends = (refl, first.1) }

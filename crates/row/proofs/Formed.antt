@@ -112,7 +112,7 @@ module _ {r : Record} where
         }
 
     error_formed : {fs : List (List ℕ)} → Row.ErrorIdField r fs → WellFormed r
-    error_formed (Row.error_id_lem k x h i (Row.error_length n l (Row.first {b = c} {u = u} f z (Row.second {b = d} {u = t} g p q w) e))) =
+    error_formed (Row.error_id k x h i (Row.error_length n l (Row.first {b = c} {u = u} f z (Row.second {b = d} {u = t} g p q w) e))) =
         let y = bytes_sum 5 q refl (omega arith) in
         let s = error_small i in
         let v = failed c d t u r.«data» z (hex_below g) y.0 y.1 w e in

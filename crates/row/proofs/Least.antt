@@ -56,7 +56,7 @@ module _ {r : Record} where
   type (Row.rx e h) = omega (arith, ap length e, frame h)
   type (Row.tx e h) = omega (arith, ap length e, frame h)
   type (Row.warng e (Row.warning_id k x h (Row.warning_length l b))) = omega (arith, ap length e, h.width, length_size l)
-  type (Row.error e (Row.error_id_lem k x h i (Row.error_length n l b))) = omega (arith, ap length e, h.width, length_size l)
+  type (Row.error e (Row.error_id k x h i (Row.error_length n l b))) = omega (arith, ap length e, h.width, length_size l)
 
   bus : {x : Bool} {fs : List (List ℕ)} → Row.FromBus r x fs → 10 ≤ size fs
   bus (Row.no_bus b h) = type h

@@ -85,7 +85,7 @@ module _ (p : Part) {f : List ℕ} (fs : List (List ℕ)) (r : Record) (l : word
   long_at stage.WarningBytes c =
       let x = word_for l c.bytes in
       (x.0, λ g a. record { known = c.known; sum = c.sum; bytes = x.1 g a; total = c.total })
-  long_at stage.ErrorId (e, Row.error_id_lem k x h i w) = short stage.ErrorId (hex_short (omega arith) h) (omega arith)
+  long_at stage.ErrorId (e, Row.error_id k x h i w) = short stage.ErrorId (hex_short (omega arith) h) (omega arith)
   long_at stage.ErrorLength (e, k, Row.error_length m n h) = short stage.ErrorLength (length_short n) (omega arith)
   long_at stage.ErrorFirst (e, Row.first h b s q) = short stage.ErrorFirst (hex_short (omega arith) h) (omega arith)
   long_at stage.ErrorSecond c = short stage.ErrorSecond (second_short c.bytes) (omega arith)

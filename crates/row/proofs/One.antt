@@ -66,7 +66,7 @@ module _ {r q : Record} where
       cc (bytes_one b c)
 
   error_one : {fs : List (List ℕ)} → Row.ErrorIdField r fs → Row.ErrorIdField q fs → behind r ≡ behind q
-  error_one (Row.error_id_lem k x h i (Row.error_length l f d)) (Row.error_id_lem m y j o (Row.error_length n g c)) =
+  error_one (Row.error_id k x h i (Row.error_length l f d)) (Row.error_id m y j o (Row.error_length n g c)) =
       cc (one_hex h j, first_one d c)
 
 -- The columns up to the type.

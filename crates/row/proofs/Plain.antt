@@ -48,7 +48,7 @@ module _ {r : Record} where
   type (Row.tx e h) = then (type_plain (tx e)) (frame h)
   type (Row.warng e (Row.warning_id k x h (Row.warning_length l b))) =
       then (type_plain (warng e)) (then (hex_plain (hex_field (omega arith) h)) (then (length_plain l) (bytes (λ gs. words) b)))
-  type (Row.error e (Row.error_id_lem k x h i (Row.error_length n l (Row.first f z (Row.second g p q w) u)))) =
+  type (Row.error e (Row.error_id k x h i (Row.error_length n l (Row.first f z (Row.second g p q w) u)))) =
       then (type_plain (error e))
       (then (hex_plain (hex_field (omega arith) h))
       (then (length_plain l) (then (byte_plain f) (then (byte_plain g) (bytes (λ gs. nothing) q)))))

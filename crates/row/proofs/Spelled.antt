@@ -133,7 +133,7 @@ module _ {r : Record} (w : WellFormed r) where
       let i = four_digits (λ z. omega arith) x.extended in
       let s = error_small x.id in
       rw (i, d, bytes_more, bytes_more)
-      (Row.error_id_lem e x.extended (hex_spells Capital 4 r.id (omega arith)) x.id
+      (Row.error_id e x.extended (hex_spells Capital 4 r.id (omega arith)) x.id
       (Row.error_length x.len (length_spelled r.len 4 x.len (omega arith))
       (Row.first (byte_spelled Capital (r.«data» / 256 ^ 7)) x.first
       (Row.second (byte_spelled Capital (r.«data» / 256 ^ 6)) x.second

@@ -33,7 +33,7 @@ after_warning_length (Row.warning_length l b) = (l, b)
 
 pub after_error_id : {r : Record} {f : List ℕ} {fs : List (List ℕ)} → Row.ErrorIdField r (f ∷ fs)
     → (r.kind ≡ 5) × (r.extended ≡ 0) × Hex 4 r.id f × ErrorId r.id × Row.ErrorLength r fs
-after_error_id (Row.error_id_lem k x h i l) = (k, x, h, i, l)
+after_error_id (Row.error_id k x h i l) = (k, x, h, i, l)
 
 pub after_error_length : {r : Record} {f : List ℕ} {fs : List (List ℕ)} → Row.ErrorLength r (f ∷ fs)
     → (r.len ≡ 4) × LengthField 4 f × Row.ErrorFirst r.«data» fs
@@ -98,7 +98,7 @@ module _ {w : List ℕ} {at : ℕ} (p : Part) {s : Scan} where
       (λ f fs r h e c. let a = after_error_id c.1 in let z = one_hex a.2 h.spelled in (cc (c.0, x, y, i, z, a.1), a.0, a.4))
       (λ f fs r h e c. let l : length f ≡ 4 = omega arith in
       let z : s.value ≡ r.id = cc (c.0, i) in
-      (cc (c.0, x), Row.error_id_lem c.1 (cc (c.0, y)) (rw (l, z) at h.spelled) (rw z at v) c.2))
+      (cc (c.0, x), Row.error_id c.1 (cc (c.0, y)) (rw (l, z) at h.spelled) (rw z at v) c.2))
 
   pub error_length_barred : (t : Step) → t.at ≡ 0 → s.value ≢ 4 → Got LengthField w at s → Steps w at (continues_at stage.ErrorLength p) t
   error_length_barred t z n g = barred t g z (λ f fs r h e c. n (length_one h (after_error_length c.2).1))

@@ -64,7 +64,7 @@ pub data ErrorLength (r : Record) : List (List ℕ) → Type 0 where
 
 -- From the ID on: four digits, 1, 2, 4 or 8.
 pub data ErrorIdField (r : Record) : List (List ℕ) → Type 0 where
-  error_id_lem : {f : List ℕ} {fs : List (List ℕ)} → r.kind ≡ 5 → r.extended ≡ 0 → Hex 4 r.id f → ErrorId r.id → ErrorLength r fs
+  error_id : {f : List ℕ} {fs : List (List ℕ)} → r.kind ≡ 5 → r.extended ≡ 0 → Hex 4 r.id f → ErrorId r.id → ErrorLength r fs
       → ErrorIdField r (f ∷ fs)
 
 -- From the type on: `Rx`, `Tx`, `Warng` or `Error`.

@@ -110,7 +110,7 @@ module _ {r q : Record} (four : r.kind ≡ 4) (f : List ℕ) (hs : List (List �
   type_behind : {fs : List (List ℕ)} → Row.FromType r fs → Row.FromType q (fs ++ (f ∷ hs)) → All Capital f
   type_behind (Row.rx e h) g = absurd (omega (arith, frame_kind (omega arith) h))
   type_behind (Row.tx e h) g = absurd (omega (arith, frame_kind (omega arith) h))
-  type_behind (Row.error e (Row.error_id_lem k x h i l)) g = absurd (omega arith)
+  type_behind (Row.error e (Row.error_id k x h i l)) g = absurd (omega arith)
   type_behind (Row.warng e h) (Row.rx d g) = absurd (omega (arith, ap length (sym e ∙ d)))
   type_behind (Row.warng e h) (Row.tx d g) = absurd (omega (arith, ap length (sym e ∙ d)))
   type_behind (Row.warng e h) (Row.error d g) = absurd (omega (arith, ap (λ (l : List ℕ). get_or l 0 0) (sym e ∙ d)))
