@@ -90,7 +90,7 @@ file_text = 36 ∷ 70 ∷ 73 ∷ 76 ∷ 69 ∷ 86 ∷ 69 ∷ 82 ∷ 83 ∷ 73 �
 pub record VersionEnd (v : ℕ) (line : List ℕ) (e : ℕ) : Type 0 where
   pub room : e + 3 ≤ length line
   pub is : Figures (get_or line e 0) (get_or line (e + 1) 0) (get_or line (e + 2) 0) v
-  pub blank-end : Blanks (drop (e + 3) line)
+  pub blank_end : Blanks (drop (e + 3) line)
 
 module _ {line : List ℕ} {at : ℕ} (o : Opened line at) where
   version_tail : {v : ℕ} (l : VersionLine v line) → drop at line ≡ version_text v ++ l.after
@@ -109,11 +109,11 @@ module _ {line : List ℕ} {at : ℕ} (o : Opened line at) where
         let z = head_at line (at + 13 + 1 + 1) y.2 in
         let m : at + 13 + 1 + 1 ≡ at + 13 + 2 = omega arith in
         let n : at + 13 + 1 + 1 + 1 ≡ at + 13 + 3 = omega arith in
-        let b : Blanks (drop (at + 13 + 1 + 1 + 1) line) = rw z.2 l.blank-end in
+        let b : Blanks (drop (at + 13 + 1 + 1 + 1) line) = rw z.2 l.blank_end in
         record {
           room = omega (arith, z.0);
           is = record { is = l.is; first = x.1; between = y.1; second = rw m at z.1 };
-          blank-end = rw n at b;
+          blank_end = rw n at b;
         }
 
     pub version_made : {v : ℕ} → VersionEnd v line (at + 13) → VersionLine v line
@@ -131,13 +131,13 @@ module _ {line : List ℕ} {at : ℕ} (o : Opened line at) where
           after = drop (at + 13 + 3) line;
           bytes = o.bytes ∙ ap (λ (l : List ℕ). 59 ∷ (o.before ++ l)) (behind p ∙ ap (λ (l : List ℕ). file_text ++ l) t);
           blanks = o.blanks;
-          blank-end = w.blank-end;
+          blank_end = w.blank_end;
         }
 
     -- what the figures give is what the line gives
     pub version_answer : {v : ℕ} → at + 13 + 3 ≤ length line → Blanks (drop (at + 13 + 3) line)
         → FiguresOr0 (get_or line (at + 13) 0) (get_or line (at + 13 + 1) 0) (get_or line (at + 13 + 2) 0) v → VersionOr0 line v
-    version_answer h b (figures f) = version (version_made (record { room = h; is = f; blank-end = b }))
+    version_answer h b (figures f) = version (version_made (record { room = h; is = f; blank_end = b }))
     version_answer h b (no_figures z f) = none z (λ u l. f u (version_end l).is)
 
 -- A point stops digits, and so do blanks.
@@ -177,10 +177,10 @@ module _ {line : List ℕ} {at : ℕ} (o : Opened line at) where
           → (l.fraction ≡ slice (point + 1) end line) × (l.after ≡ drop end line)
       start_fraction l =
           let h = head_at line point (start_day l).1 in
-          run_one q l.after (digits_all l.gives.digits.digits) (blanks_stop l.blank-end) h.2
+          run_one q l.after (digits_all l.gives.digits.digits) (blanks_stop l.blank_end) h.2
 
       pub start_blanks : {s : ℕ} → StartLine s line → Blanks (drop end line)
-      start_blanks l = rw (start_fraction l).1 at l.blank-end
+      start_blanks l = rw (start_fraction l).1 at l.blank_end
 
       start_digits : {s : ℕ} → StartLine s line → StartDigits (slice (at + 11) point line) (slice (point + 1) end line) s
       start_digits l = rw ((start_day l).0, (start_fraction l).0) at l.gives
@@ -201,7 +201,7 @@ module _ {line : List ℕ} {at : ℕ} (o : Opened line at) where
             bytes = o.bytes ∙ ap (λ (l : List ℕ). 59 ∷ (o.before ++ l)) (behind p ∙ ap (λ (l : List ℕ). start_text ++ l) z);
             blanks = o.blanks;
             gives = w;
-            blank-end = b;
+            blank_end = b;
           }
 
       -- what the digits give is what the line gives

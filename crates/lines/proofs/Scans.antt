@@ -38,6 +38,10 @@ module _ {P : ℕ → Type 0} where
     pub all_passed : length s ≤ e → Ran P s i e
     all_passed h = record { from = p.from; within = p.within; all = p.all; stops = rw (drop_of_length-le s h) over }
 
+-- What a loop over a run needs.
+pub ruleset passing = (none_passed, one_passed, stopped, all_passed)
+
+module _ {P : ℕ → Type 0} where
   module _ {s : List ℕ} {i e : ℕ} (r : Ran P s i e) where
     pub split : drop i s ≡ slice i e s ++ drop e s
     split = slice_drop i e s r.from r.within

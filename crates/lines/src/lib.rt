@@ -1,4 +1,6 @@
 // Single lines of a trace: where one ends, and what a version line, a start line and a comment say.
+#![tactic(auto)]
+
 ghost use Rattle.std.specs.Prelude.{◌≤◌, length};
 ghost use Rattle.base.specs.inner.Decides.{Decides};
 ghost use Rattle.lines.specs.Lines.{Inside};
@@ -36,6 +38,7 @@ pub enum Remark {
 }
 
 // Where the bytes before the first CR or LF end.
+#[tactic(auto, using(crate::proofs::Scans::passing, crate::proofs::Lines::cr_outside, crate::proofs::Lines::lf_outside))]
 pub fn inside_end(text: &[u8], at: usize) -> usize
     requires { at ≤ length text.now }
     ensures { Ran Inside text.now at result }
@@ -54,6 +57,7 @@ pub fn inside_end(text: &[u8], at: usize) -> usize
 }
 
 // Where the line that starts at a place ends.
+#[tactic(auto, using(crate::proofs::Lines::line_closes, crate::proofs::Lines::line_closed))]
 pub fn line_end(text: &[u8], at: usize) -> Ending
     requires { at ≤ length text.now }
     ensures { EndsAt text.now at result }
@@ -72,6 +76,7 @@ pub fn line_end(text: &[u8], at: usize) -> Ending
 }
 
 // Where the bytes between two, these two among them, end that stand from a place on: blanks, or decimal digits.
+#[tactic(auto, using(crate::proofs::Scans::passing))]
 pub fn run_end(line: &[u8], at: usize, first: u8, last: u8) -> usize
     requires { at ≤ length line.now }
     ensures { Ran (Between first last) line.now at result }

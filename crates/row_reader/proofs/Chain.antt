@@ -46,7 +46,8 @@ module _ {w : List ℕ} {at a : ℕ} (k : Skipped w at a) where
 
     module _ {x : Stage} {left place word : ℕ} {out : List ℕ} where
       -- what the field asks
-      pub gap_field : {hex : List ℕ} → b ≡ false → Ready x left place word out → HexTable hex → Starts w a × Ready x left place word out × HexTable hex
+      pub gap_field : {hex : List ℕ} → b ≡ false → Ready x left place word out → HexTable hex
+          → Starts w a × Ready x left place word out × HexTable hex
       gap_field e r t = (gap_starts_at e, r, t)
 
       -- the line ends at a stage that no row ends in

@@ -1,4 +1,4 @@
--- A law for each column of the chain: `X-on`, the field is there and the slots are put; `X-off`, it is not; `X-barred`, no row goes on with its
+-- A law for each column of the chain: `X_on`, the field is there and the slots are put; `X_off`, it is not; `X_none`, no row goes on with its
 -- value.
 use Prim.Native.Nat.{ℕ, ◌+◌, ◌*◌, ◌-◌, ◌/◌, ◌^◌, ◌≤◌, ◌<◌}
 use mathlib.Core.Path.{◌≡◌, refl}
@@ -81,7 +81,8 @@ module _ {w : List ℕ} {at k : ℕ} {s : Scan} (t : Takes NumberField w at s) (
   pub number_off : {version : ℕ} → s.end ≡ 0 → Steps w at (λ fs r. Row.RowFields version k r fs) (behind 0 stage.TypeColumn 0 0 (seen out 0))
   number_off z = refused _ t z refl (λ f fs r h. (k, (after_number h).0))
 
-  pub number_none : {version : ℕ} → s.end ≢ 0 → s.value ≢ k → Steps w at (λ fs r. Row.RowFields version k r fs) (behind 0 stage.TypeColumn 0 0 (seen out 0))
+  pub number_none : {version : ℕ} → s.end ≢ 0 → s.value ≢ k
+      → Steps w at (λ fs r. Row.RowFields version k r fs) (behind 0 stage.TypeColumn 0 0 (seen out 0))
   number_none n f = number_barred _ (got t n) refl f
 
   pub number_on : {version : ℕ} → s.end ≢ 0 → s.value ≡ k → Version version
@@ -111,11 +112,13 @@ module _ {w : List ℕ} {at : ℕ} {s : Scan} {out : List ℕ} where
     offset_on {mid} {new} z b p q =
         let x = p.slots in
         let y = q.slots in
-        offset_went (known (stage.Offset v) 0 0 0 out) g.good.0 (got (rw d at t) z) b (seen new 0) (cc (x, y)) (cc (x, y)) refl
+        offset_went (known (stage.Offset v) 0 0 0 out) g.good.0 (got (rw d at t) z) b (seen new 0) (cc (x, y)) (cc y) refl
 
     pub offset_bus_on : {new : List ℕ} → s.end ≢ 0 → has_bus v ≡ true → PutsSlot 0 s.value out new
         → Steps w at (Continues (known (stage.Offset v) 0 0 0 out)) (behind s.end stage.Bus 0 0 (seen new 0))
-    offset_bus_on {new} z b p = let x = p.slots in offset_bus_went (known (stage.Offset v) 0 0 0 out) g.good.0 (got (rw d at t) z) b (seen new 0) (cc (x)) refl
+    offset_bus_on {new} z b p =
+        let x = p.slots in
+        offset_bus_went (known (stage.Offset v) 0 0 0 out) g.good.0 (got (rw d at t) z) b (seen new 0) (cc (x)) refl
 
   -- The bus.
   module _ (g : Ready stage.Bus 0 0 0 out) (t : Takes BusField w at s) where
@@ -137,10 +140,12 @@ module _ {w : List ℕ} {at : ℕ} {s : Scan} {out : List ℕ} where
         let x = u.slots in
         type_frame (known stage.TypeColumn 0 0 0 out) (got t n) (seen new 0) l (cc (x)) (cc (x)) refl
 
-    pub warning_on : s.end ≢ 0 → s.value ≡ 2 → Steps w at (Continues (known stage.TypeColumn 0 0 0 out)) (behind s.end stage.WarningId 0 0 (seen out 0))
+    pub warning_on : s.end ≢ 0 → s.value ≡ 2
+        → Steps w at (Continues (known stage.TypeColumn 0 0 0 out)) (behind s.end stage.WarningId 0 0 (seen out 0))
     warning_on n e = type_warning (known stage.TypeColumn 0 0 0 out) (got t n) e refl
 
-    pub error_on : s.end ≢ 0 → 2 < s.value → Steps w at (Continues (known stage.TypeColumn 0 0 0 out)) (behind s.end stage.ErrorId 0 0 (seen out 0))
+    pub error_on : s.end ≢ 0 → 2 < s.value
+        → Steps w at (Continues (known stage.TypeColumn 0 0 0 out)) (behind s.end stage.ErrorId 0 0 (seen out 0))
     error_on n l = type_error (known stage.TypeColumn 0 0 0 out) (got t n) l refl
 
   -- The ID of a frame.
@@ -152,13 +157,14 @@ module _ {w : List ℕ} {at : ℕ} {s : Scan} {out : List ℕ} where
         → Steps w at (Continues (known stage.Id 0 0 0 out)) (behind 0 stage.Length 0 0 (seen out 0))
     id_none n f l = let u = unformed f l in id_barred (known stage.Id 0 0 0 out) (got t n) _ refl u.0 u.1
 
-    pub id_on : {x : ℕ} {mid new : List ℕ} → s.end ≢ 0 → FormOf s.value (s.end - at) x → x ≤ 1 → PutsSlot 3 x out mid → PutsSlot 4 s.value mid new
+    pub id_on : {x : ℕ} {mid new : List ℕ} → s.end ≢ 0 → FormOf s.value (s.end - at) x → x ≤ 1 → PutsSlot 3 x out mid
+        → PutsSlot 4 s.value mid new
         → Steps w at (Continues (known stage.Id 0 0 0 out)) (behind s.end stage.Length 0 0 (seen new 0))
     id_on {x} {mid} {new} n f l u v =
         let y = u.slots in
         let z = v.slots in
         let h : x ≡ get_or new 3 0 = cc (y, z) in
-        id_went (known stage.Id 0 0 0 out) (got t n) (seen new 0) g.good.0 (cc (y, z)) (cc (y, z)) (cc (y, z)) refl (rw h at (formed f l))
+        id_went (known stage.Id 0 0 0 out) (got t n) (seen new 0) g.good.0 (cc (y, z)) (cc z) (cc (y, z)) refl (rw h at (formed f l))
 
   -- The length of a frame.
   module _ (g : Ready stage.Length 0 0 0 out) (t : Takes LengthField w at s) where
@@ -179,18 +185,21 @@ module _ {w : List ℕ} {at : ℕ} {s : Scan} {out : List ℕ} where
         let x = u.slots in
         remote_went (known stage.Data left (256 ^ 7) 0 out) g.good (seen new 0) (cc (x)) (cc (x)) refl (got t n)
 
-    pub data_none : s.end ≡ 0 → left ≡ 0 → Steps w at (Continues (known stage.Data left (256 ^ 7) 0 out)) (behind 0 stage.Bytes 0 0 (seen out 0))
+    pub data_none : s.end ≡ 0 → left ≡ 0
+        → Steps w at (Continues (known stage.Data left (256 ^ 7) 0 out)) (behind 0 stage.Bytes 0 0 (seen out 0))
     data_none z n = data_barred (known stage.Data left (256 ^ 7) 0 out) g.good _ t z n refl
 
     pub data_on : {b : Scan} → s.end ≡ 0 → left ≢ 0 → Takes (Hex 2) w at b
-        → Steps w at (Continues (known stage.Data left (256 ^ 7) 0 out)) (behind b.end stage.Bytes (left - 1) (256 ^ 6) (seen out (b.value * 256 ^ 7)))
+        → Steps w at (Continues (known stage.Data left (256 ^ 7) 0 out))
+        (behind b.end stage.Bytes (left - 1) (256 ^ 6) (seen out (b.value * 256 ^ 7)))
     data_on z n (taken a e h) = data_went (known stage.Data left (256 ^ 7) 0 out) g.good _ t z n (one_byte a e h (rw zero-add refl))
     data_on z n (not e f) = data_went (known stage.Data left (256 ^ 7) 0 out) g.good _ t z n (no_byte e f)
 
   -- A data byte, if one is left.
   module _ {left place word : ℕ} (g : Ready stage.Bytes left place word out) where
     pub byte_on : left ≢ 0 → Takes (Hex 2) w at s
-        → Steps w at (Continues (known stage.Bytes left place word out)) (behind s.end stage.Bytes (left - 1) (place / 256) (seen out (word + s.value * place)))
+        → Steps w at (Continues (known stage.Bytes left place word out))
+        (behind s.end stage.Bytes (left - 1) (place / 256) (seen out (word + s.value * place)))
     byte_on n (taken a e h) = bytes_went (known stage.Bytes left place word out) _ n g.good (one_byte a e h refl)
     byte_on n (not e f) = bytes_went (known stage.Bytes left place word out) _ n g.good (no_byte e f)
 
@@ -207,14 +216,17 @@ module _ {w : List ℕ} {at : ℕ} {s : Scan} {out : List ℕ} where
         → Steps w at (Continues (known stage.WarningId 0 0 0 out)) (behind s.end stage.WarningLength 0 0 (seen new 0))
     warning_id_on {new} n e v u =
         let x = u.slots in
-        warning_id_went (known stage.WarningId 0 0 0 out) (seen new 0) (cc (x)) (cc (x)) (record { extended = cc (x); id = cc (x); len = cc (x) }) refl e v (got t n)
+        warning_id_went (known stage.WarningId 0 0 0 out) (seen new 0) (cc (x)) (cc (x))
+        (record { extended = cc (x); id = cc (x); len = cc (x) }) refl e v (got t n)
 
   -- The length of a warning.
   module _ (g : Ready stage.WarningLength 0 0 0 out) (t : Takes LengthField w at s) where
-    pub warning_length_off : s.end ≡ 0 → Steps w at (Continues (known stage.WarningLength 0 0 0 out)) (behind 0 stage.WarningBytes 0 0 (seen out 0))
+    pub warning_length_off : s.end ≡ 0
+        → Steps w at (Continues (known stage.WarningLength 0 0 0 out)) (behind 0 stage.WarningBytes 0 0 (seen out 0))
     warning_length_off z = refused _ t z refl (λ f fs r h. (4, (after_warning_length h.1).0))
 
-    pub warning_length_none : s.end ≢ 0 → s.value ≢ 4 → Steps w at (Continues (known stage.WarningLength 0 0 0 out)) (behind 0 stage.WarningBytes 0 0 (seen out 0))
+    pub warning_length_none : s.end ≢ 0 → s.value ≢ 4
+        → Steps w at (Continues (known stage.WarningLength 0 0 0 out)) (behind 0 stage.WarningBytes 0 0 (seen out 0))
     warning_length_none n f = warning_length_barred (known stage.WarningLength 0 0 0 out) _ refl f (got t n)
 
     pub warning_length_on : s.end ≢ 0 → s.value ≡ 4
@@ -232,7 +244,8 @@ module _ {w : List ℕ} {at : ℕ} {s : Scan} {out : List ℕ} where
     word_on n t z = word_went (known stage.WarningBytes left place word out) n g.good (got t z)
 
     pub warning_byte_on : left ≢ 0 → Takes (Hex 2) w at s
-        → Steps w at (Continues (known stage.WarningBytes left place word out)) (behind s.end stage.WarningBytes (left - 1) (place / 256) (seen out (word + s.value * place)))
+        → Steps w at (Continues (known stage.WarningBytes left place word out))
+        (behind s.end stage.WarningBytes (left - 1) (place / 256) (seen out (word + s.value * place)))
     warning_byte_on n (taken a e h) = warning_bytes_went (known stage.WarningBytes left place word out) _ n g.good (one_byte a e h refl)
     warning_byte_on n (not e f) = warning_bytes_went (known stage.WarningBytes left place word out) _ n g.good (no_byte e f)
 
@@ -250,14 +263,15 @@ module _ {w : List ℕ} {at : ℕ} {s : Scan} {out : List ℕ} where
     error_id_on {mid} {new} n e v a b =
         let x = a.slots in
         let y = b.slots in
-        error_id_went (known stage.ErrorId 0 0 0 out) (seen new 0) (cc (x, y)) (cc (x, y)) (cc (x, y)) refl e v (got t n)
+        error_id_went (known stage.ErrorId 0 0 0 out) (seen new 0) (cc (x, y)) (cc (x, y)) (cc y) refl e v (got t n)
 
   -- The length of an error frame.
   module _ (g : Ready stage.ErrorLength 0 0 0 out) (t : Takes LengthField w at s) where
     pub error_length_off : s.end ≡ 0 → Steps w at (Continues (known stage.ErrorLength 0 0 0 out)) (behind 0 stage.ErrorFirst 0 0 (seen out 0))
     error_length_off z = refused _ t z refl (λ f fs r h. (4, (after_error_length h.2).1))
 
-    pub error_length_none : s.end ≢ 0 → s.value ≢ 4 → Steps w at (Continues (known stage.ErrorLength 0 0 0 out)) (behind 0 stage.ErrorFirst 0 0 (seen out 0))
+    pub error_length_none : s.end ≢ 0 → s.value ≢ 4
+        → Steps w at (Continues (known stage.ErrorLength 0 0 0 out)) (behind 0 stage.ErrorFirst 0 0 (seen out 0))
     error_length_none n f = error_length_barred (known stage.ErrorLength 0 0 0 out) _ refl f (got t n)
 
     pub error_length_on : {mid new : List ℕ} → s.end ≢ 0 → s.value ≡ 4 → PutsSlot 2 5 out mid → PutsSlot 5 4 mid new
@@ -265,14 +279,15 @@ module _ {w : List ℕ} {at : ℕ} {s : Scan} {out : List ℕ} where
     error_length_on {mid} {new} n e a b =
         let x = a.slots in
         let y = b.slots in
-        error_length_went (known stage.ErrorLength 0 0 0 out) (seen new 0) (cc (x, y)) (cc (x, y)) (cc (x, y)) refl e (got t n)
+        error_length_went (known stage.ErrorLength 0 0 0 out) (seen new 0) (cc (x, y)) (cc (x, y)) (cc y) refl e (got t n)
 
   -- The first byte of an error frame.
   module _ (g : Ready stage.ErrorFirst 0 0 0 out) (t : Takes (Hex 2) w at s) where
     pub first_off : s.end ≡ 0 → Steps w at (Continues (known stage.ErrorFirst 0 0 0 out)) (behind 0 stage.ErrorSecond 0 0 (seen out 0))
     first_off z = refused _ t z refl (λ f fs r h. let a = after_first h.1 in (a.0, a.2))
 
-    pub first_none : s.end ≢ 0 → 1 < s.value → Steps w at (Continues (known stage.ErrorFirst 0 0 0 out)) (behind 0 stage.ErrorSecond 0 0 (seen out 0))
+    pub first_none : s.end ≢ 0 → 1 < s.value
+        → Steps w at (Continues (known stage.ErrorFirst 0 0 0 out)) (behind 0 stage.ErrorSecond 0 0 (seen out 0))
     first_none n l = error_first_barred (known stage.ErrorFirst 0 0 0 out) _ refl l (got t n)
 
     pub first_on : s.end ≢ 0 → s.value ≤ 1
@@ -284,7 +299,8 @@ module _ {w : List ℕ} {at : ℕ} {s : Scan} {out : List ℕ} where
     pub second_off : s.end ≡ 0 → Steps w at (Continues (known stage.ErrorSecond 0 0 word out)) (behind 0 stage.Bytes 0 0 (seen out 0))
     second_off z = refused _ t z refl (λ f fs r h. let a = after_second h.bytes in (a.0, a.2))
 
-    pub second_none : s.end ≢ 0 → (Position s.value → ⊥) → Steps w at (Continues (known stage.ErrorSecond 0 0 word out)) (behind 0 stage.Bytes 0 0 (seen out 0))
+    pub second_none : s.end ≢ 0 → (Position s.value → ⊥)
+        → Steps w at (Continues (known stage.ErrorSecond 0 0 word out)) (behind 0 stage.Bytes 0 0 (seen out 0))
     second_none n f = error_second_barred (known stage.ErrorSecond 0 0 word out) _ refl f (got t n)
 
     pub second_on : s.end ≢ 0 → Position s.value

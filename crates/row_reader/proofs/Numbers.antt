@@ -37,7 +37,8 @@ nowhere = record { at = 0; part = known stage.Bus 0 0 0 [] }
 another_stuck : {w : List ℕ} {at : ℕ} {s : Scan} → Takes NumberField w at s → Steps w at (Another s.value) nowhere
 another_stuck {w} {at} {s} (taken {f = f} a z p) = stuck refl (λ g rest h fs r (f', gs, j, e, n, d). d (number_one (same h e n) p))
   where
-    same : {g rest f' : List ℕ} {fs gs : List (List ℕ)} {j : ℕ} → FieldAt g rest (drop at w) → g ∷ fs ≡ f' ∷ gs → NumberField j f' → NumberField j f
+    same : {g rest f' : List ℕ} {fs gs : List (List ℕ)} {j : ℕ} → FieldAt g rest (drop at w) → g ∷ fs ≡ f' ∷ gs → NumberField j f'
+        → NumberField j f
     same {g} {f' = f'} h e n =
         let q : f' ≡ g = cc in
         rw (field_one h a).0 at (rw q at n)
@@ -73,10 +74,12 @@ module _ (w : List ℕ) (at : ℕ) {e k : ℕ} (z : e ≡ 0) (g : Leads (Another
   stands_first = record { expected = any z; only = λ f fs j ps n x. only_one ps n (ℕ_discrete j k) }
 
 module _ {w : List ℕ} {at a e : ℕ} (k : Skipped w at a) (z : e ≡ 0) where
-  pub number_there : {s : Scan} → Starts w a → Takes NumberField w a s → (line : List ℕ) → LineBeforeCr line (drop at w) → NumberOf e line s.value
+  pub number_there : {s : Scan} → Starts w a → Takes NumberField w a s → (line : List ℕ) → LineBeforeCr line (drop at w)
+      → NumberOf e line s.value
   number_there h t = stands_first w at z (another_at k h t)
 
-  pub no_number_there : {b : Bool} → Decides (get_or w a 0 ≡ 13) b → b ≡ true → (line : List ℕ) → LineBeforeCr line (drop at w) → NumberOf e line 0
+  pub no_number_there : {b : Bool} → Decides (get_or w a 0 ≡ 13) b → b ≡ true → (line : List ℕ) → LineBeforeCr line (drop at w)
+      → NumberOf e line 0
   no_number_there d q = stands_first w at z (another_none k d q)
 
 -- and else it is the one that is asked for.

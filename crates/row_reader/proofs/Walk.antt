@@ -33,7 +33,8 @@ behead {b} {s} (c ∷ line) n l =
     tail : All NoEnd (c ∷ line) → All NoEnd line
     tail (more p q) = q
 
-pub peel : {f : List ℕ} (s : List ℕ) {line : List ℕ} → All NoEnd f → LineBeforeCr line (f ++ s) → (l : List ℕ) × (line ≡ f ++ l) × LineBeforeCr l s
+pub peel : {f : List ℕ} (s : List ℕ) {line : List ℕ} → All NoEnd f → LineBeforeCr line (f ++ s)
+    → (l : List ℕ) × (line ≡ f ++ l) × LineBeforeCr l s
 peel s {line} empty l = (line, refl, l)
 peel s {line} (more {b = b} n a) l =
     let x = behead line n l in
@@ -115,7 +116,8 @@ pub record FirstField (w : List ℕ) (at : ℕ) (fs : List (List ℕ)) : Type 0 
   pub there : FieldAt field rest (drop at w)
   pub first : fs ≡ field ∷ others
 
-pub first_field : (w : List ℕ) (at : ℕ) {fs : List (List ℕ)} {line : List ℕ} → Starts w at → LineBeforeCr line (drop at w) → Parted fs line → FirstField w at fs
+pub first_field : (w : List ℕ) (at : ℕ) {fs : List (List ℕ)} {line : List ℕ} → Starts w at → LineBeforeCr line (drop at w) → Parted fs line
+    → FirstField w at fs
 first_field w at k l ps = go ps l (next_line w at l k.solid.end).1
   where
     b : ℕ
@@ -179,7 +181,8 @@ pub not_whole : {p : Part} {a : ℕ} {out : List ℕ} (b : Bool) → b ≡ false
 not_whole false e (early f) = None-found refl (λ fs r ps c. f r (rw (only_none ps) at c))
 not_whole true e h = absurd (true≢false e)
 
-pub is_whole : {p : Part} {a e : ℕ} {out : List ℕ} (b : Bool) → b ≡ true → EndsRow p.stage p b → out ≡ fields_of p.r → e ≡ suc a → Finds (Continues p) a [] out e
+pub is_whole : {p : Part} {a e : ℕ} {out : List ℕ} (b : Bool) → b ≡ true → EndsRow p.stage p b → out ≡ fields_of p.r → e ≡ suc a
+    → Finds (Continues p) a [] out e
 is_whole true e (whole c u) o z = found none c o (omega arith)
 is_whole false e h o z = absurd (true≢false (sym e))
 
@@ -190,7 +193,8 @@ pub record Onward (w : List ℕ) (at : ℕ) (t : Step) : Type 0 where
   pub later : at < t.at
   pub inside : at < length w
 
-pub onward : {w : List ℕ} {at : ℕ} {C : List (List ℕ) → Record → Type 0} {t : Step} → Steps w at C t → (t.at ≡ 0 → ⊥) → Starts w at → Onward w at t
+pub onward : {w : List ℕ} {at : ℕ} {C : List (List ℕ) → Record → Type 0} {t : Step} → Steps w at C t → (t.at ≡ 0 → ⊥) → Starts w at
+    → Onward w at t
 onward (stuck z f) n k = absurd (n z)
 onward {w} {at} {C} {t} (moved a e g on back) n k =
     let l = k.lined.is in

@@ -50,13 +50,15 @@ cut_early [] m (more n a) = n refl
 cut_early (b ∷ line) m (more n a) = cut_early line m a
 
 -- One byte more is in the window.
-pub one_more : (s w : List ℕ) (i : ℕ) → i < length s → i < length w → set (take i s ++ drop i w) i (get_or s i 0) ≡ take (i + 1) s ++ drop (i + 1) w
+pub one_more : (s w : List ℕ) (i : ℕ) → i < length s → i < length w
+    → set (take i s ++ drop i w) i (get_or s i 0) ≡ take (i + 1) s ++ drop (i + 1) w
 one_more s w i h k =
     rw (add-one, drop-cons w i 0 k, take-suc s i 0 h, set_at (take i s) (get_or w i 0) (drop (suc i) w) (get_or s i 0) i (length-take-le i s (omega arith)))
     (sym (append_snoc (take i s) (get_or s i 0) (drop (suc i) w)))
 
 -- All bytes are, and CR behind them.
-pub closed : (s w : List ℕ) → length s < length w → set (take (length s) s ++ drop (length s) w) (length s) 13 ≡ s ++ (13 ∷ drop (length s + 1) w)
+pub closed : (s w : List ℕ) → length s < length w
+    → set (take (length s) s ++ drop (length s) w) (length s) 13 ≡ s ++ (13 ∷ drop (length s + 1) w)
 closed s w h = rw (take-length, drop-cons w (length s) 0 h, set_at s (get_or w (length s) 0) (drop (suc (length s)) w) 13 (length s) refl, add-one)
 
 -- What the window loop keeps.
@@ -74,7 +76,8 @@ filled_length {s} {before} {now} {n} {i} f =
 
 -- The answer for a line that is not read to its end, and for one that is.
 
-pub not_read : {v k e : ℕ} {s out : List ℕ} (rest : List ℕ) → ((line : List ℕ) → LineBeforeCr line (s ++ (13 ∷ rest)) → RowFound v k 0 line out e)
+pub not_read : {v k e : ℕ} {s out : List ℕ} (rest : List ℕ)
+    → ((line : List ℕ) → LineBeforeCr line (s ++ (13 ∷ rest)) → RowFound v k 0 line out e)
     → (e ≡ length s + 1 → ⊥) → (r : Record) → Row v k r s → ⊥
 not_read {v} {k} {e} {s} {out} rest f n r w = let x = framed s rest in go x.all (f x.line x.is)
   where
@@ -86,7 +89,8 @@ not_read {v} {k} {e} {s} {out} rest f n r w = let x = framed s rest in go x.all 
     go (inl q) (row_found u o z) = n (omega (arith, ap length q))
     go (inl q) (no_row z g) = g r (rw (← q) at w)
 
-pub is_read : {v k e : ℕ} {s out : List ℕ} (rest : List ℕ) → ((line : List ℕ) → LineBeforeCr line (s ++ (13 ∷ rest)) → RowFound v k 0 line out e)
+pub is_read : {v k e : ℕ} {s out : List ℕ} (rest : List ℕ)
+    → ((line : List ℕ) → LineBeforeCr line (s ++ (13 ∷ rest)) → RowFound v k 0 line out e)
     → e ≡ length s + 1 → Row v k (record_of out) s
 is_read {v} {k} {e} {s} {out} rest f z = let x = framed s rest in go x.all (f x.line x.is)
   where

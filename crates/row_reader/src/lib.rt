@@ -1,6 +1,8 @@
 // Reads one row of a trace. A gap is skipped and the field behind it read, which goes on at the gap of the next column: one gap and one
 // field for each column (`head`, then `frame`, `warning` or `error`), and the data bytes, and a warning's words, call each other to the end of
 // the row. Every parameter is a number or a reference to an array, and the result is a number.
+#![tactic(auto)]
+
 mod error;
 mod frame;
 mod head;

@@ -1,5 +1,5 @@
 -- What the readers of parts of a line promise to those that put them together.
-use Rattle.std.specs.Prelude.{ℕ, ◌+◌, ◌/◌, ◌%◌, ◌≤◌, ◌≡◌, List, ◌∷◌, ◌++◌, length, drop}
+use Rattle.std.specs.Prelude.{ℕ, ◌/◌, ◌%◌, ◌≤◌, ◌≡◌, List, ◌∷◌, ◌++◌, length, drop}
 use Rattle.std.proofs.Math.Seq.{slice}
 use Rattle.base.specs.Text.{blank, semicolon, point}
 use Rattle.digits.specs.Digits.{DecimalDigit}

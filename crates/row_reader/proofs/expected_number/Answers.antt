@@ -1,17 +1,13 @@
 -- `row_reader::expected_number` is the number that is asked for, or the one that stands behind the gap.
 use native.Mathlib.Omega.{arith}
 use Rattle.row_reader.proofs.Chain.{gap_starts_at}
-use Rattle.row_reader.proofs.Numbers.{number_asked, number_there, no_number_there}
+use Rattle.row_reader.proofs.Numbers.{number_there, no_number_there}
 use Rattle.row_reader.proofs.expected_number.Goals as goal
-
-pub returns-then-e-ne0 : goal.returns-then-e-ne0
-returns-then-e-ne0 c = λ line l. number_asked c.if-e-ne0.true line
 
 pub returns-then-at_end : goal.returns-then-at_end
 returns-then-at_end c = no_number_there c.skip_in-a.ensures.skipped (omega arith) c.at_end.ensures c.if-at_end.true
 
-pub number_field-s-requires : goal.number_field-s-requires
-number_field-s-requires c = gap_starts_at c.skip_in-a.ensures.skipped c.at_end.ensures c.if-at_end.false
-
 pub returns : goal.returns
-returns c = let k = c.skip_in-a.ensures.skipped in number_there k (omega arith) (gap_starts_at k c.at_end.ensures c.if-at_end.false) c.number_field-s.ensures
+returns c =
+    let k = c.skip_in-a.ensures.skipped in number_there k (omega arith) (gap_starts_at k c.at_end.ensures c.if-at_end.false)
+    c.number_field-s.ensures

@@ -1,13 +1,10 @@
 -- `row_reader::error::gap_error_first` skips the gap before an error frame's first byte.
 use mathlib.Core.Path.{refl}
-use Rattle.row_reader.proofs.Chain.{gap_on, gap_early, gap_field}
+use Rattle.row_reader.proofs.Chain.{gap_on, gap_early}
 use Rattle.row_reader.proofs.error.gap_error_first.Goals as goal
 
 pub returns-then-at_end : goal.returns-then-at_end
 returns-then-at_end c = gap_early c.skip_in-a.ensures.skipped c.at_end.ensures c.if-at_end.true refl c.requires.1
-
-pub field_error_first-requires : goal.field_error_first-requires
-field_error_first-requires c = gap_field c.skip_in-a.ensures.skipped c.at_end.ensures c.if-at_end.false c.requires.1 c.requires.2
 
 pub returns : goal.returns
 returns c = gap_on c.skip_in-a.ensures.skipped c.field_error_first.ensures

@@ -8,7 +8,9 @@ pub returns-then-e-eq0 : goal.returns-then-e-eq0
 returns-then-e-eq0 c = stop _ (bus_off c.requires.1 c.bus_field-s.ensures c.if-e-eq0.true) refl c.requires.0
 
 pub gap_type-requires : goal.gap_type-requires
-gap_type-requires c = next (bus_on c.requires.1 c.bus_field-s.ensures c.if-e-eq0.false c.put.ensures) c.if-e-eq0.false c.requires.0 c.requires.2
+gap_type-requires c =
+    let s = bus_on c.requires.1 c.bus_field-s.ensures c.if-e-eq0.false c.put.ensures in
+    next s c.if-e-eq0.false c.requires.0 c.requires.2
 
 pub returns : goal.returns
 returns c = link (bus_on c.requires.1 c.bus_field-s.ensures c.if-e-eq0.false c.put.ensures) c.if-e-eq0.false c.gap_type.ensures

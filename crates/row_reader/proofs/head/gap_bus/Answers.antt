@@ -1,13 +1,10 @@
 -- `row_reader::head::gap_bus` skips the gap before a bus.
 use mathlib.Core.Path.{refl}
-use Rattle.row_reader.proofs.Chain.{gap_on, gap_early, gap_field}
+use Rattle.row_reader.proofs.Chain.{gap_on, gap_early}
 use Rattle.row_reader.proofs.head.gap_bus.Goals as goal
 
 pub returns-then-at_end : goal.returns-then-at_end
 returns-then-at_end c = gap_early c.skip_in-a.ensures.skipped c.at_end.ensures c.if-at_end.true refl c.requires.1
-
-pub field_bus-requires : goal.field_bus-requires
-field_bus-requires c = gap_field c.skip_in-a.ensures.skipped c.at_end.ensures c.if-at_end.false c.requires.1 c.requires.2
 
 pub returns : goal.returns
 returns c = gap_on c.skip_in-a.ensures.skipped c.field_bus.ensures
