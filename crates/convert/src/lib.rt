@@ -1,4 +1,6 @@
 // The bench program's work: what is to be printed for an input.
+#![tactic(auto)]
+
 ghost use Rattle.std.specs.Prelude.{length};
 ghost use Rattle.convert.specs.inner.Page.{PutOnPage};
 ghost use Rattle.convert.specs.Promise.{refusal_text, ConvertPromise};

@@ -77,7 +77,7 @@ body_cut rest (line f ls) e (comment l c h) =
     }
 body_cut {v} {k} rest (line f ls) e (row {r = r} l w h) =
     let x = first_one l.first (rw (← e) at (first_more rest f)) in
-    let y = body_cut rest ls x.1 h in
+    let y = body_cut {k = k + 1} rest ls x.1 h in
     let n : k + 1 + length y.before ≡ k + suc (length y.before) = omega arith in
     record {
       before = r ∷ y.before;

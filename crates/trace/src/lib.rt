@@ -1,4 +1,6 @@
 // A whole trace: read from text into packed records, in two passes. The first judges every line and counts, the second fills.
+#![tactic(auto)]
+
 ghost use Rattle.std.specs.Prelude.{◌≤◌, length};
 ghost use Rattle.digits.specs.inner.HexTable.{HexTable};
 ghost use Rattle.trace.specs.Trace.{size_limit};

@@ -1,4 +1,6 @@
 // A whole trace, written from packed records as the house spells it. The first pass judges and measures, the second writes.
+#![tactic(auto)]
+
 ghost use Rattle.std.specs.Prelude.{◌≡◌, ◌+◌, ◌≤◌, length};
 ghost use Rattle.base.specs.inner.Decides.{Decides};
 ghost use Rattle.base.specs.inner.Wrote.{Wrote};

@@ -2,7 +2,7 @@
 use native.Mathlib.Omega.{arith}
 use lib.Seq.{length-slice}
 use Rattle.trace.proofs.Pieces.{part_slice, line_there}
-use Rattle.trace.proofs.Opening.{absent_first, open_first, long_first, other_first, is_version, no_version_there}
+use Rattle.trace.proofs.Opening.{absent_first, open_first, long_first, other_first, no_version_there}
 use Rattle.trace.proofs.head.Goals as goal
 
 pub returns-then-text-eq0 : goal.returns-then-text-eq0
@@ -16,26 +16,9 @@ returns-then-e-gt-LINE_LIMIT c =
     let h = (rw c.in-At.is at c.line_end-end.ensures) in
     long_first _ c.requires h.2 (omega (arith, length-slice 0 c.in-At.e c.args.text.now (omega arith)))
 
-pub slice_bounds-version_line-count : goal.slice_bounds-version_line-count
-slice_bounds-version_line-count c = let h = (rw c.in-At.is at c.line_end-end.ensures) in omega arith
-
-pub slice_bounds-version_line-start : goal.slice_bounds-version_line-start
-slice_bounds-version_line-start c = let h = (rw c.in-At.is at c.line_end-end.ensures) in omega arith
-
-pub slice_bounds-version_line-end : goal.slice_bounds-version_line-end
-slice_bounds-version_line-end c = let h = (rw c.in-At.is at c.line_end-end.ensures) in omega arith
-
 pub returns-then-version-eq0 : goal.returns-then-version-eq0
 returns-then-version-eq0 c =
     let h = (rw c.in-At.is at c.line_end-end.ensures) in
     let q = part_slice 0 c.in-At.e c.args.text.now (omega arith) (omega arith) in
-    other_first _ c.requires (line_there h (omega arith)).is (λ v x. no_version_there c.version_line-version.ensures c.if-version-eq0.true v (rw (← q) at x))
-
-pub overflow_add-e : goal.overflow_add-e
-overflow_add-e c = let h = (rw c.in-At.is at c.line_end-end.ensures) in omega arith
-
-pub second-requires : goal.second-requires
-second-requires c =
-    let h = (rw c.in-At.is at c.line_end-end.ensures) in
-    let q = part_slice 0 c.in-At.e c.args.text.now (omega arith) (omega arith) in
-    (record { line = _; there = line_there h (omega arith); is = rw q at (is_version c.version_line-version.ensures c.if-version-eq0.false) }, c.requires)
+    other_first _ c.requires (line_there h (omega arith)).is
+    (λ v x. no_version_there c.version_line-version.ensures c.if-version-eq0.true v (rw (← q) at x))

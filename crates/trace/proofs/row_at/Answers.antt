@@ -3,9 +3,6 @@ use native.Mathlib.Omega.{arith}
 use Rattle.trace.proofs.Rows.{lined, feed_near, row_here, no_row_here}
 use Rattle.trace.proofs.row_at.Goals as goal
 
-pub overflow_sub-at : goal.overflow_sub-at
-overflow_sub-at c = omega (arith, c.requires.0.starts)
-
 pub row_in-e-requires : goal.row_in-e-requires
 row_in-e-requires c = (lined c.requires.0 c.requires.1, c.requires.2)
 
@@ -15,23 +12,15 @@ returns-then-e-eq0 c = no_row_here c.requires.0 c.requires.1 c.row_in-e.ensures 
 pub overflow_add-feed : goal.overflow_add-feed
 overflow_add-feed c = omega (arith, feed_near c.requires.0 c.requires.1 c.row_in-e.ensures)
 
-pub overflow_add-at : goal.overflow_add-at
-overflow_add-at c = omega (arith, c.requires.1)
-
 pub returns-then-at-feed : goal.returns-then-at-feed
 returns-then-at-feed c = no_row_here c.requires.0 c.requires.1 c.row_in-e.ensures (λ z h m f. omega (arith, c.if-at-feed.true))
 
 pub returns-then-text-feed : goal.returns-then-text-feed
 returns-then-text-feed c = no_row_here c.requires.0 c.requires.1 c.row_in-e.ensures (λ z h m f. omega (arith, c.if-text-feed.true))
 
-pub bounds-text-feed : goal.bounds-text-feed
-bounds-text-feed c = omega (arith, c.if-text-feed.false)
-
 pub returns-then-text-feed-ne10 : goal.returns-then-text-feed-ne10
 returns-then-text-feed-ne10 c = no_row_here c.requires.0 c.requires.1 c.row_in-e.ensures (λ z h m f. absurd (c.if-text-feed-ne10.true f))
 
-pub overflow_add-result : goal.overflow_add-result
-overflow_add-result c = omega (arith, c.if-text-feed.false)
-
 pub returns : goal.returns
-returns c = row_here c.requires.0 c.requires.1 c.row_in-e.ensures c.if-e-eq0.false (omega (arith, c.if-at-feed.false)) (omega (arith, c.if-text-feed.false)) c.if-text-feed-ne10.false
+returns c =
+    row_here c.requires.0 c.requires.1 c.row_in-e.ensures c.if-e-eq0.false (omega (arith, c.if-at-feed.false)) (omega (arith, c.if-text-feed.false)) c.if-text-feed-ne10.false

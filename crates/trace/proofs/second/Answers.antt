@@ -5,17 +5,11 @@ use Rattle.trace.proofs.Pieces.{part_slice, line_there}
 use Rattle.trace.proofs.Opening.{absent_second, open_second, long_second, other_second, both_lines}
 use Rattle.trace.proofs.second.Goals as goal
 
-pub line_end-end-requires : goal.line_end-end-requires
-line_end-end-requires c = c.requires.0.there.within
-
 pub returns-then-text-at : goal.returns-then-text-at
 returns-then-text-at c = let p = c.requires in absent_second _ p.1 p.0 c.if-text-at.true
 
 pub returns-in_default : goal.returns-in_default
 returns-in_default c = let p = c.requires in open_second _ p.1 p.0 c.if-text-at.false (rw c.in_default.is at c.line_end-end.ensures)
-
-pub overflow_sub-e : goal.overflow_sub-e
-overflow_sub-e c = let h = (rw c.in-At.is at c.line_end-end.ensures) in omega arith
 
 pub returns-then-e-at-gt-LINE_LIMIT : goal.returns-then-e-at-gt-LINE_LIMIT
 returns-then-e-at-gt-LINE_LIMIT c =
@@ -24,25 +18,13 @@ returns-then-e-at-gt-LINE_LIMIT c =
     let h = (rw c.in-At.is at c.line_end-end.ensures) in
     long_second _ p.1 p.0 h.2 (omega (arith, length-slice a.at c.in-At.e a.text.now (omega arith)))
 
-pub slice_bounds-start_line-count : goal.slice_bounds-start_line-count
-slice_bounds-start_line-count c = let h = (rw c.in-At.is at c.line_end-end.ensures) in omega arith
-
-pub slice_bounds-start_line-start : goal.slice_bounds-start_line-start
-slice_bounds-start_line-start c = let h = (rw c.in-At.is at c.line_end-end.ensures) in omega arith
-
-pub slice_bounds-start_line-end : goal.slice_bounds-start_line-end
-slice_bounds-start_line-end c = let h = (rw c.in-At.is at c.line_end-end.ensures) in omega arith
-
 pub returns-in_default-s : goal.returns-in_default-s
 returns-in_default-s c =
     let p = c.requires in
     let h = (rw c.in-At.is at c.line_end-end.ensures) in
     let q = part_slice c.args.at c.in-At.e c.args.text.now (omega arith) (omega arith) in
-    let n = rw c.enum_told-in_default-s-1.given.1 at c.start_line-s.ensures in
+    let n = rw c.in_default-s.is at c.start_line-s.ensures in
     other_second _ p.1 p.0 (line_there h (omega arith)).is (λ s x. n s (rw (← q) at x))
-
-pub overflow_add-result : goal.overflow_add-result
-overflow_add-result c = let h = (rw c.in-At.is at c.line_end-end.ensures) in omega arith
 
 pub returns : goal.returns
 returns c =

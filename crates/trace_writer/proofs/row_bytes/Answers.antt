@@ -1,20 +1,12 @@
 -- `trace_writer::row_bytes` meets its contract.
-use mathlib.Core.Path.{refl}
 use mathlib.Core.List.{[], ◌∷◌}
 use native.Mathlib.Omega.{arith}
-use borrow.Author.Rules.{rules}
-use Rattle.base.proofs.Tests.{shown, refuted}
+use Rattle.base.proofs.Tests.{shown}
 use lib.ListN.{length-append}
 use Rattle.row.specs.House.{row_text}
 use Rattle.row.proofs.Spelled.{row_size}
-use Rattle.trace_writer.specs.inner.Passes.{carried, misfit}
+use Rattle.trace_writer.specs.inner.Passes.{carried}
 use Rattle.trace_writer.proofs.row_bytes.Goals as goal
-
-pub returns-then-not-carries : goal.returns-then-not-carries
-returns-then-not-carries c = (misfit (refuted c.carries.result c.if-not-carries.true c.carries.ensures) refl, search rules)
-
-pub row_length-requires : goal.row_length-requires
-row_length-requires c = let p = c.requires in (p.0, shown c.carries.result c.if-not-carries.false c.carries.ensures, p.1, p.2)
 
 pub overflow_add-result : goal.overflow_add-result
 overflow_add-result c =
