@@ -66,7 +66,7 @@ never_stopped w l c r (malformed v k b f) = none_malformed r f
 
 -- so what is given is none,
 not_stopped : {start channel n p : ℕ} {s text : List ℕ} {rs : List Record} → Given start channel s rs text → ExportStopped start channel s n p → ⊥
-not_stopped g = never_stopped g.whole g.limit g.is-channel g.packs
+not_stopped g = never_stopped g.whole g.limit g.is_channel g.packs
 
 -- and is the only one.
 given_one : {start channel : ℕ} {s t u : List ℕ} {rs qs : List Record} → Given start channel s rs t → Given start channel s qs u → (rs ≡ qs) × (t ≡ u)

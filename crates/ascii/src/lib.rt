@@ -1,4 +1,6 @@
 // The export to Telemotive ASCII, from packed records. The first pass judges and measures, the second writes.
+#![tactic(auto)]
+
 ghost use Rattle.std.specs.Prelude.{◌≡◌, ◌+◌, ◌/◌, ◌≤◌, length};
 ghost use Rattle.base.specs.Limits.{offset_limit, last_bus};
 ghost use Rattle.digits.specs.inner.Pairs.{PairsOf};

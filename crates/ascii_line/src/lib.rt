@@ -1,4 +1,6 @@
 // One line of Telemotive ASCII: the line of one record, and how many bytes that is.
+#![tactic(auto)]
+
 ghost use Rattle.std.specs.Prelude.{◌≡◌, ◌∷◌, ◌+◌, ◌≤◌, length};
 ghost use Rattle.digits.specs.inner.Pairs.{PairsOf};
 ghost use Rattle.base.specs.Limits.{last_bus};

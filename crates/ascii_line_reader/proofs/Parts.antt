@@ -2,7 +2,7 @@
 use Prim.Native.Nat.{ℕ, zero, suc, ◌+◌, ◌*◌, ◌≤◌, ◌<◌}
 use mathlib.Core.Path.{◌≡◌, refl, ap, sym, ◌∙◌}
 use mathlib.Core.Logic.{◌≢◌, ⊎_elim}
-use mathlib.Core.Bool.{Bool, true, false, not}
+use mathlib.Core.Bool.{Bool, true, false}
 use mathlib.Core.List.{List, [], ◌∷◌, ◌++◌}
 use native.Mathlib.Nat.{add-zero}
 use native.Mathlib.Numerals.{add-one}
@@ -71,10 +71,10 @@ module _ {word w : List ℕ} {at i : ℕ} (k : Stood word w at i) where
     stands : StandsAt word w at
     stands = rw (take_all i word h) at k.begun
 
-    pub word_unended : {f rest : List ℕ} (r : Bool) → Decides (End (get_or w (at + i) 0)) r → not r ≡ true → FieldAt f rest (drop at w) → f ≡ word → ⊥
+    pub word_unended : {f rest : List ℕ} (r : Bool) → Decides (End (get_or w (at + i) 0)) r → r ≡ false → FieldAt f rest (drop at w) → f ≡ word → ⊥
     word_unended r d e a q = unended stands r (rw whole at d) e a (ap length q)
 
-    pub word_taken : (r : Bool) → 0 < length word → Decides (End (get_or w (at + i) 0)) r → not r ≡ false
+    pub word_taken : (r : Bool) → 0 < length word → Decides (End (get_or w (at + i) 0)) r → r ≡ true
         → Takes (λ v f. f ≡ word) w at (record { end = at + i; value = 0 })
     word_taken r z d e = rw whole (taken (ended stands z r (rw whole at d) e) refl refl)
 
@@ -106,11 +106,11 @@ module _ {w : List ℕ} {at : ℕ} (b : Starts w at) where
     pub zero_stands : StandsAt (48 ∷ []) w at
     zero_stands = first b e
 
-    pub zero_taken : (r : Bool) → Decides (End (get_or w (at + 1) 0)) r → not r ≡ false → Takes ChannelNumber w at (record { end = at + 1; value = 0 })
+    pub zero_taken : (r : Bool) → Decides (End (get_or w (at + 1) 0)) r → r ≡ true → Takes ChannelNumber w at (record { end = at + 1; value = 0 })
     zero_taken r d n = taken (ended zero_stands (omega arith) r d n) refl (record { spelled = rw (one 0 (omega arith)) at (decimal_spells 0); high = omega arith })
 
     -- another byte behind it
-    pub zero_first : {f rest : List ℕ} {v : ℕ} (r : Bool) → Decides (End (get_or w (at + 1) 0)) r → not r ≡ true → FieldAt f rest (drop at w) → ChannelNumber v f → ⊥
+    pub zero_first : {f rest : List ℕ} {v : ℕ} (r : Bool) → Decides (End (get_or w (at + 1) 0)) r → r ≡ false → FieldAt f rest (drop at w) → ChannelNumber v f → ⊥
     zero_first {f} r d n a p = go (dec_lt 1 (length f))
       where
         go : Dec (1 < length f) → ⊥

@@ -1,5 +1,7 @@
 // Reads one line of Telemotive ASCII: its stamp, and the frame behind it. As in a row, a part is read without searching its end first, from a window in
 // which CR stands behind the line.
+#![tactic(auto)]
+
 mod frame;
 mod stamp;
 

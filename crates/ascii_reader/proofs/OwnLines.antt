@@ -138,7 +138,7 @@ pub own_export : {start channel n l k p : ℕ} {s before after old new : List �
 own_export p d r =
     let x = accepted p in
     let g = x.given in
-    go (own_lines g.is-channel g.packs.formed (d x.records g.packs) g.exports) (rw (accepted_text x) at r)
+    go (own_lines g.is_channel g.packs.formed (d x.records g.packs) g.exports) (rw (accepted_text x) at r)
   where
     go : {text old new : List ℕ} {p : ℕ} → SuchLines text → ReadAsciiPromise text old (31 ∷ p ∷ 0 ∷ 0 ∷ []) new → ⊥
     go x (read.large l e q) = let z = number e in omega arith

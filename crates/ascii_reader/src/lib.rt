@@ -1,4 +1,6 @@
 // A whole text of Telemotive ASCII lines: read back into packed records, in two passes. The first judges every line and counts, the second fills.
+#![tactic(auto)]
+
 mod window;
 
 ghost use Rattle.std.specs.Prelude.{◌≡◌, ◌+◌, ◌*◌, ◌≤◌, length};

@@ -13,9 +13,3 @@ returns-then-start-gt-START_LIMIT c = record { export_promise = refused (late (s
 
 pub returns-then-channel-gt-LAST_BUS : goal.returns-then-channel-gt-LAST_BUS
 returns-then-channel-gt-LAST_BUS c = record { export_promise = refused (no_channel (shown c.whole.result c.if-not-whole.false c.whole.ensures) c.if-start-gt-START_LIMIT.false c.if-channel-gt-LAST_BUS.true) refl refl; numbered = is_refused (omega arith) }
-
-pub put_all-requires : goal.put_all-requires
-put_all-requires c = ((shown c.whole.result c.if-not-whole.false c.whole.ensures), c.if-start-gt-START_LIMIT.false, c.if-channel-gt-LAST_BUS.false)
-
-pub returns : goal.returns
-returns c = c.put_all.ensures

@@ -12,15 +12,15 @@ use Rattle.ascii.proofs.put_all.Goals as goal
 counts : {a b c x y z : ℕ} → a ≡ x → b ≡ y → c ≡ z → ◌≡◌ {A = List ℕ} (0 ∷ 0 ∷ a ∷ b ∷ c ∷ []) (0 ∷ 0 ∷ x ∷ y ∷ z ∷ [])
 counts e d f = cc
 
-pub measure_lines-m-requires : goal.measure_lines-m-requires
-measure_lines-m-requires c = (c.requires.0, c.requires.2)
-
 pub returns-then-out-bytes : goal.returns-then-out-bytes
 returns-then-out-bytes c =
     let g = rw c.in-Good.is at c.measure_lines-m.ensures in
     let e = c.requires in
     let x = g.2 c.args.start in
-    (no_room (record { whole = e.0; limit = e.1; is_channel = e.2; packs = g.1; exports = x.1 }) (omega (arith, x.2, c.if-out-bytes.true)) refl refl, is_refused (omega arith))
+    record {
+      export_promise = no_room (record { whole = e.0; limit = e.1; is_channel = e.2; packs = g.1; exports = x.1 }) (omega (arith, x.2, c.if-out-bytes.true)) refl refl;
+      numbered = is_refused (omega arith);
+    }
 
 pub put_lines-requires : goal.put_lines-requires
 put_lines-requires c =
@@ -33,14 +33,15 @@ returns-else-out-bytes c =
     let g = rw c.in-Good.is at c.measure_lines-m.ensures in
     let e = c.requires in
     let x = g.2 c.args.start in
-    let l : length x.0 ≤ length c.args.out.now = omega (arith, x.2, c.if-out-bytes.false) in (
-      done (record { whole = e.0; limit = e.1; is_channel = e.2; packs = g.1; exports = x.1 }) l (counts x.2 g.3 g.4)
-          (at_start (c.put_lines.ensures.lines g.0 x.0 g.1 x.1).1 l),
-      is_done,
-    )
+    let l : length x.0 ≤ length c.args.out.now = omega (arith, x.2, c.if-out-bytes.false) in
+    record {
+      export_promise = done (record { whole = e.0; limit = e.1; is_channel = e.2; packs = g.1; exports = x.1 }) l (counts x.2 g.3 g.4)
+          (at_start (c.put_lines.ensures.lines g.0 x.0 g.1 x.1).1 l);
+      numbered = is_done;
+    }
 
 pub returns-in-Bad : goal.returns-in-Bad
 returns-in-Bad c =
     let f = rw c.in-Bad.is at c.measure_lines-m.ensures in
     let e = c.requires in
-    (refused (malformed e.0 e.1 e.2 f) refl refl, is_refused (omega arith))
+    record { export_promise = refused (malformed e.0 e.1 e.2 f) refl refl; numbered = is_refused (omega arith) }

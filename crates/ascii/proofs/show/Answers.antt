@@ -3,8 +3,5 @@ use mathlib.Core.Path.{refl}
 use Rattle.ascii.proofs.Keeping.{shows}
 use Rattle.ascii.proofs.show.Goals as goal
 
-pub stamp_of-requires : goal.stamp_of-requires
-stamp_of-requires c = c.requires
-
 pub returns : goal.returns
 returns c = shows c.stamp_of.ensures c.put_second.ensures refl

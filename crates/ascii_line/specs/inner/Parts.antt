@@ -1,5 +1,5 @@
 -- The line in the pieces that its writer puts. The promise of the export does not cite this file.
-use Rattle.std.specs.Prelude.{ℕ, ◌+◌, ◌^◌, ◌≡◌, List, [], ◌∷◌, ◌++◌}
+use Rattle.std.specs.Prelude.{ℕ, ◌^◌, ◌≡◌, List, [], ◌∷◌, ◌++◌}
 use Rattle.base.specs.Spaced.{spaced}
 use Rattle.digits.specs.declared.Letters.TheVariants.{Small}
 use Rattle.digits.specs.House.{decimal_text, padded_text, byte_texts, figure_of}

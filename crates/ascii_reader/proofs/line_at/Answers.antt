@@ -6,9 +6,6 @@ use Rattle.ascii_reader.proofs.Ends.{cr_all_length}
 use Rattle.ascii_reader.proofs.Windows.{end_near, not_read, line_here}
 use Rattle.ascii_reader.proofs.line_at.Goals as goal
 
-pub overflow_sub-at : goal.overflow_sub-at
-overflow_sub-at c = omega (arith, c.requires.0.starts)
-
 pub line_in-x-requires : goal.line_in-x-requires
 line_in-x-requires c = (lined c.requires.0 (rw (cr_all_length c.args.text.now) c.requires.1), c.requires.2)
 

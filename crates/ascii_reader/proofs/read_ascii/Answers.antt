@@ -2,7 +2,7 @@
 use Prim.Native.Nat.{ℕ}
 use mathlib.Core.Path.{refl, ap}
 use native.Mathlib.Omega.{arith}
-use Rattle.ascii_reader.specs.declared.AsciiRead.TheVariants as ascii-read
+use Rattle.ascii_reader.specs.declared.AsciiRead.TheVariants as ascii_read
 use Rattle.ascii_reader.specs.Promise.{read_ascii_numbers, is_done, is_refused, large, refused, many, no_room, done}
 use Rattle.ascii_reader.proofs.Stops.{refused_numbers}
 use Rattle.ascii_reader.proofs.read_ascii.Goals as goal
@@ -10,25 +10,36 @@ use Rattle.ascii_reader.proofs.read_ascii.Goals as goal
 pub returns-then-text-gt-SIZE_LIMIT : goal.returns-then-text-gt-SIZE_LIMIT
 returns-then-text-gt-SIZE_LIMIT c = record { read_ascii_promise = large c.if-text-gt-SIZE_LIMIT.true refl refl; numbered = is_refused (omega arith) }
 
-pub judge-j-requires : goal.judge-j-requires
-judge-j-requires c = (omega arith, c.hex_table-hex.ensures)
-
 pub returns-then-lines-gt-LAST_NUMBER : goal.returns-then-lines-gt-LAST_NUMBER
-returns-then-lines-gt-LAST_NUMBER c = let g = rw c.in-Good.is at c.judge-j.ensures in (many (omega (arith, c.if-text-gt-SIZE_LIMIT.false)) g.1 (omega (arith, g.2, c.if-lines-gt-LAST_NUMBER.true)) refl refl, is_refused (omega arith))
+returns-then-lines-gt-LAST_NUMBER c =
+    let g = rw c.in-Good.is at c.judge-j.ensures in
+    record {
+      read_ascii_promise = many (omega (arith, c.if-text-gt-SIZE_LIMIT.false)) g.1 (omega (arith, g.2, c.if-lines-gt-LAST_NUMBER.true)) refl refl;
+      numbered = is_refused (omega arith);
+    }
 
 pub returns-then-out-lines : goal.returns-then-out-lines
-returns-then-out-lines c = let g = rw c.in-Good.is at c.judge-j.ensures in (no_room (omega (arith, c.if-text-gt-SIZE_LIMIT.false)) g.1 (omega (arith, g.2, c.if-lines-gt-LAST_NUMBER.false)) (omega (arith, g.2, c.if-out-lines.true)) refl refl, is_refused (omega arith))
-
-pub fill-requires : goal.fill-requires
-fill-requires c = let g = rw c.in-Good.is at c.judge-j.ensures in (record { records = g.0; spelled = g.1; room = omega (arith, g.2, c.if-out-lines.false) }, c.hex_table-hex.ensures)
+returns-then-out-lines c =
+    let g = rw c.in-Good.is at c.judge-j.ensures in
+    record {
+      read_ascii_promise = no_room (omega (arith, c.if-text-gt-SIZE_LIMIT.false)) g.1 (omega (arith, g.2, c.if-lines-gt-LAST_NUMBER.false)) (omega (arith, g.2, c.if-out-lines.true)) refl refl;
+      numbered = is_refused (omega arith);
+    }
 
 pub returns-else-out-lines : goal.returns-else-out-lines
 returns-else-out-lines c =
-    let g = rw c.in-Good.is at c.judge-j.ensures in (
-      done (omega (arith, c.if-text-gt-SIZE_LIMIT.false)) g.1 (omega (arith, g.2, c.if-lines-gt-LAST_NUMBER.false)) (omega (arith, g.2, c.if-out-lines.false))
-          (ap (λ (n : ℕ). read_ascii_numbers (ascii-read.Done c.in-Good.start n)) g.2) (c.fill.ensures.bytes _ _ g.1),
-      is_done,
-    )
+    let g = rw c.in-Good.is at c.judge-j.ensures in
+    record {
+      read_ascii_promise =
+          done (omega (arith, c.if-text-gt-SIZE_LIMIT.false)) g.1 (omega (arith, g.2, c.if-lines-gt-LAST_NUMBER.false)) (omega (arith, g.2, c.if-out-lines.false))
+          (ap (λ (n : ℕ). read_ascii_numbers (ascii_read.Done c.in-Good.start n)) g.2) (c.fill.ensures.bytes _ _ g.1);
+      numbered = is_done;
+    }
 
 pub returns-in-Bad : goal.returns-in-Bad
-returns-in-Bad c = let g = rw c.in-Bad.is at c.judge-j.ensures in (refused (omega (arith, c.if-text-gt-SIZE_LIMIT.false)) g refl refl, is_refused (omega (arith, (refused_numbers g).0)))
+returns-in-Bad c =
+    let g = rw c.in-Bad.is at c.judge-j.ensures in
+    record {
+      read_ascii_promise = refused (omega (arith, c.if-text-gt-SIZE_LIMIT.false)) g refl refl;
+      numbered = is_refused (omega (arith, (refused_numbers g).0));
+    }

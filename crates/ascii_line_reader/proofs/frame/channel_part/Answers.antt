@@ -1,30 +1,12 @@
 -- `ascii_line_reader::frame::channel_part` reads `#`, and the channel's number behind it.
 use mathlib.Core.Logic.{inl, inr}
-use native.Mathlib.Omega.{arith}
 use Rattle.base.proofs.Tests.{shown, refuted}
 use Rattle.fields.specs.inner.Window.{not}
-use Rattle.fields.proofs.Window.{inside}
-use Rattle.fields.proofs.FixedFields.{here, not_first}
 use Rattle.ascii_line_reader.proofs.Parts.{sharp, no_channel, channel_takes}
 use Rattle.ascii_line_reader.proofs.frame.channel_part.Goals as goal
 
-pub bounds-bytes-at : goal.bounds-bytes-at
-bounds-bytes-at c = inside _ _ c.requires.lined
-
-pub returns-then-bytes-at-ne35 : goal.returns-then-bytes-at-ne35
-returns-then-bytes-at-ne35 c = not c.none.ensures (λ f rest a v p. not_first c.requires c.if-bytes-at-ne35.true a p.bytes)
-
-pub overflow_add-at : goal.overflow_add-at
-overflow_add-at c = omega (arith, here (sharp c.requires c.if-bytes-at-ne35.false))
-
-pub bounds-bytes-at-2 : goal.bounds-bytes-at-2
-bounds-bytes-at-2 c = here (sharp c.requires c.if-bytes-at-ne35.false)
-
 pub returns-then-ends : goal.returns-then-ends
 returns-then-ends c = not c.none-then-ends.ensures (λ f rest a v p. no_channel c.requires c.if-bytes-at-ne35.false (shown c.ends.result c.if-ends.true c.ends.ensures) a p)
-
-pub overflow_add-at-2 : goal.overflow_add-at-2
-overflow_add-at-2 c = omega (arith, here (sharp c.requires c.if-bytes-at-ne35.false))
 
 pub channel_number-requires : goal.channel_number-requires
 channel_number-requires c =

@@ -2,17 +2,11 @@
 use native.Mathlib.Omega.{arith}
 use Rattle.base.proofs.Tests.{shown, refuted}
 use Rattle.row_reader.proofs.Chain.{gap_starts_at}
-use Rattle.ascii_line_reader.proofs.Data.{reading, bytes_over, bytes_stop, byte_room, one_read, data_left, data_read}
+use Rattle.ascii_line_reader.proofs.Data.{bytes_over, bytes_stop, byte_room, one_read, data_left, data_read}
 use Rattle.ascii_line_reader.proofs.frame.frame_data.Goals as goal
-
-pub loop-left-init : goal.loop-left-init
-loop-left-init c = reading c.requires.0
 
 pub returns-then-at_end : goal.returns-then-at_end
 returns-then-at_end c = bytes_over c.loop-left.invariant c.loop-left-test.true c.skip_in-a.ensures.skipped (shown c.at_end.result c.if-at_end.true c.at_end.ensures) c.no_frame.ensures
-
-pub byte_field-s-requires : goal.byte_field-s-requires
-byte_field-s-requires c = (gap_starts_at c.skip_in-a.ensures.skipped c.at_end.ensures c.if-at_end.false, c.requires.1)
 
 pub returns-then-s-eq0 : goal.returns-then-s-eq0
 returns-then-s-eq0 c = bytes_stop c.loop-left.invariant c.loop-left-test.true c.skip_in-a.ensures.skipped (gap_starts_at c.skip_in-a.ensures.skipped c.at_end.ensures c.if-at_end.false) c.byte_field-s.ensures c.if-s-eq0.true c.no_frame-then-s-eq0.ensures

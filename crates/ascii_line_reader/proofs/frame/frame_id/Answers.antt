@@ -9,9 +9,6 @@ use Rattle.ascii_line_reader.proofs.frame.frame_id.Goals as goal
 pub returns-then-at_end : goal.returns-then-at_end
 returns-then-at_end c = over (id_stage _ _ _) c.skip_in-a.ensures.skipped (shown c.at_end.result c.if-at_end.true c.at_end.ensures) c.no_frame.ensures
 
-pub id_part-s-requires : goal.id_part-s-requires
-id_part-s-requires c = (gap_starts_at c.skip_in-a.ensures.skipped c.at_end.ensures c.if-at_end.false, c.requires.1, c.requires.2)
-
 pub returns-then-s-eq0 : goal.returns-then-s-eq0
 returns-then-s-eq0 c = stop (id_stage _ _ _) c.skip_in-a.ensures.skipped (gap_starts_at c.skip_in-a.ensures.skipped c.at_end.ensures c.if-at_end.false) c.id_part-s.ensures c.if-s-eq0.true c.no_frame-then-s-eq0.ensures
 

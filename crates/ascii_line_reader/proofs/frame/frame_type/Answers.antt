@@ -10,9 +10,6 @@ use Rattle.ascii_line_reader.proofs.frame.frame_type.Goals as goal
 pub returns-then-at_end : goal.returns-then-at_end
 returns-then-at_end c = over type_stage c.skip_in-a.ensures.skipped (shown c.at_end.result c.if-at_end.true c.at_end.ensures) c.no_frame.ensures
 
-pub type_part-s-requires : goal.type_part-s-requires
-type_part-s-requires c = gap_starts_at c.skip_in-a.ensures.skipped c.at_end.ensures c.if-at_end.false
-
 pub returns-then-s-eq0 : goal.returns-then-s-eq0
 returns-then-s-eq0 c = stop type_stage c.skip_in-a.ensures.skipped (gap_starts_at c.skip_in-a.ensures.skipped c.at_end.ensures c.if-at_end.false) c.type_part-s.ensures c.if-s-eq0.true c.no_frame-then-s-eq0.ensures
 

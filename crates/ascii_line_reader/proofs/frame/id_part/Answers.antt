@@ -2,14 +2,8 @@
 use native.Mathlib.Omega.{arith}
 use Rattle.fields.specs.inner.Window.{not}
 use Rattle.row.proofs.Moves.{got}
-use Rattle.ascii_line_reader.proofs.Parts.{no_hex, id_is, id_takes}
+use Rattle.ascii_line_reader.proofs.Parts.{id_is, id_takes}
 use Rattle.ascii_line_reader.proofs.frame.id_part.Goals as goal
-
-pub returns-then-e-eq0 : goal.returns-then-e-eq0
-returns-then-e-eq0 c = not c.none.ensures (λ f rest a v p. no_hex c.requires.2 c.hex_field-s.ensures c.if-e-eq0.true a p)
-
-pub overflow_sub-e : goal.overflow_sub-e
-overflow_sub-e c = let g = (got c.hex_field-s.ensures c.if-e-eq0.false).place in omega arith
 
 pub returns-then-e-at : goal.returns-then-e-at
 returns-then-e-at c = not c.none-then-e-at.ensures (λ f rest a v p. let g = (id_is c.requires.2 c.hex_field-s.ensures c.if-e-eq0.false a p).0 in let n = c.if-e-at.true in omega arith)

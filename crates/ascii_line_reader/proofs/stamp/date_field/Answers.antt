@@ -1,15 +1,10 @@
 -- `ascii_line_reader::stamp::date_field` refuses no date: each test holds of any.
-use Prim.Native.Nat.{◌+◌}
 use native.Mathlib.Omega.{arith}
 use Rattle.base.proofs.Tests.{shown, refuted}
 use Rattle.clock.proofs.Dates.{small_day, last_year}
 use Rattle.fields.specs.inner.Window.{not}
-use Rattle.ascii_line_reader.proofs.Digits.{behind, line_behind}
 use Rattle.ascii_line_reader.proofs.Stamps.{day_is, month_is, year_is, date_ends, date_counted, date_accept}
 use Rattle.ascii_line_reader.proofs.stamp.date_field.Goals as goal
-
-pub two_then-day-requires : goal.two_then-day-requires
-two_then-day-requires c = (c.requires, omega arith)
 
 pub returns-then-day-gt31 : goal.returns-then-day-gt31
 returns-then-day-gt31 c =
@@ -17,35 +12,17 @@ returns-then-day-gt31 c =
     let e = day_is a p c.two_then-day.ensures.0 in
     omega (arith, small_day p.is))
 
-pub overflow_add-at : goal.overflow_add-at
-overflow_add-at c = omega (arith, behind c.two_then-day.ensures.0 (omega arith))
-
-pub two_then-month-requires : goal.two_then-month-requires
-two_then-month-requires c = (line_behind (c.args.at + 3) c.two_then-day.ensures.0 (omega arith) (omega arith), omega arith)
-
 pub returns-then-month-gt12 : goal.returns-then-month-gt12
 returns-then-month-gt12 c =
     not c.none-then-month-gt12.ensures (λ f rest a v p.
     let e = month_is a p c.two_then-day.ensures.0 c.two_then-month.ensures.0 in
     omega (arith, p.is.calendar.last_month))
 
-pub overflow_add-at-2 : goal.overflow_add-at-2
-overflow_add-at-2 c = omega (arith, behind c.two_then-month.ensures.0 (omega arith))
-
-pub four-year-requires : goal.four-year-requires
-four-year-requires c = line_behind (c.args.at + 6) c.two_then-month.ensures.0 (omega arith) (omega arith)
-
 pub returns-then-year-gt9999 : goal.returns-then-year-gt9999
 returns-then-year-gt9999 c =
     not c.none-then-year-gt9999.ensures (λ f rest a v p.
     let e = year_is a p c.two_then-day.ensures.0 c.two_then-month.ensures.0 c.four-year.ensures.0 in
     omega (arith, last_year p.last p.is))
-
-pub overflow_add-at-3 : goal.overflow_add-at-3
-overflow_add-at-3 c = omega (arith, behind c.four-year.ensures.0 (omega arith))
-
-pub bounds-bytes-at : goal.bounds-bytes-at
-bounds-bytes-at c = omega (arith, behind c.four-year.ensures.0 (omega arith))
 
 pub returns-then-not-ends : goal.returns-then-not-ends
 returns-then-not-ends c =
@@ -57,9 +34,6 @@ pub returns-then-days-gt-LAST_DAY : goal.returns-then-days-gt-LAST_DAY
 returns-then-days-gt-LAST_DAY c =
     not c.none-then-days-gt-LAST_DAY.ensures (λ f rest a v p.
     date_counted a p c.two_then-day.ensures.0 c.two_then-month.ensures.0 c.four-year.ensures.0 c.day_of-days.ensures c.if-days-gt-LAST_DAY.true)
-
-pub overflow_add-result : goal.overflow_add-result
-overflow_add-result c = omega (arith, behind c.four-year.ensures.0 (omega arith))
 
 pub returns : goal.returns
 returns c =

@@ -1,14 +1,9 @@
 -- `ascii_line_reader::stamp::time_field` refuses no time: each test holds of any.
-use Prim.Native.Nat.{◌+◌}
 use native.Mathlib.Omega.{arith}
 use Rattle.base.proofs.Tests.{shown, refuted}
 use Rattle.fields.specs.inner.Window.{not}
-use Rattle.ascii_line_reader.proofs.Digits.{behind, line_behind}
 use Rattle.ascii_line_reader.proofs.Stamps.{hour_is, minute_is, second_is, part_is, time_ends, time_accept}
 use Rattle.ascii_line_reader.proofs.stamp.time_field.Goals as goal
-
-pub two_then-hour-requires : goal.two_then-hour-requires
-two_then-hour-requires c = (c.requires, omega arith)
 
 pub returns-then-hour-gt23 : goal.returns-then-hour-gt23
 returns-then-hour-gt23 c =
@@ -16,23 +11,11 @@ returns-then-hour-gt23 c =
     let e = hour_is a p c.two_then-hour.ensures.0 in
     omega (arith, p.hour))
 
-pub overflow_add-at : goal.overflow_add-at
-overflow_add-at c = omega (arith, behind c.two_then-hour.ensures.0 (omega arith))
-
-pub two_then-minute-requires : goal.two_then-minute-requires
-two_then-minute-requires c = (line_behind (c.args.at + 3) c.two_then-hour.ensures.0 (omega arith) (omega arith), omega arith)
-
 pub returns-then-minute-gt59 : goal.returns-then-minute-gt59
 returns-then-minute-gt59 c =
     not c.none-then-minute-gt59.ensures (λ f rest a v p.
     let e = minute_is a p c.two_then-hour.ensures.0 c.two_then-minute.ensures.0 in
     omega (arith, p.minute))
-
-pub overflow_add-at-2 : goal.overflow_add-at-2
-overflow_add-at-2 c = omega (arith, behind c.two_then-minute.ensures.0 (omega arith))
-
-pub two_then-second-requires : goal.two_then-second-requires
-two_then-second-requires c = (line_behind (c.args.at + 6) c.two_then-minute.ensures.0 (omega arith) (omega arith), omega arith)
 
 pub returns-then-second-gt59 : goal.returns-then-second-gt59
 returns-then-second-gt59 c =
@@ -40,32 +23,17 @@ returns-then-second-gt59 c =
     let e = second_is a p c.two_then-hour.ensures.0 c.two_then-minute.ensures.0 c.two_then-second.ensures.0 in
     omega (arith, p.second))
 
-pub overflow_add-at-3 : goal.overflow_add-at-3
-overflow_add-at-3 c = omega (arith, behind c.two_then-second.ensures.0 (omega arith))
-
-pub four-part-requires : goal.four-part-requires
-four-part-requires c = line_behind (c.args.at + 9) c.two_then-second.ensures.0 (omega arith) (omega arith)
-
 pub returns-then-part-gt9999 : goal.returns-then-part-gt9999
 returns-then-part-gt9999 c =
     not c.none-then-part-gt9999.ensures (λ f rest a v p.
     let e = part_is a p c.two_then-hour.ensures.0 c.two_then-minute.ensures.0 c.two_then-second.ensures.0 c.four-part.ensures.0 in
     omega (arith, p.part))
 
-pub overflow_add-at-4 : goal.overflow_add-at-4
-overflow_add-at-4 c = omega (arith, behind c.four-part.ensures.0 (omega arith))
-
-pub bounds-bytes-at : goal.bounds-bytes-at
-bounds-bytes-at c = omega (arith, behind c.four-part.ensures.0 (omega arith))
-
 pub returns-then-not-ends : goal.returns-then-not-ends
 returns-then-not-ends c =
     not c.none-then-not-ends.ensures (λ f rest a v p.
     refuted c.ends.result c.if-not-ends.true c.ends.ensures
     (time_ends a p c.two_then-hour.ensures.0 c.two_then-minute.ensures.0 c.two_then-second.ensures.0 c.four-part.ensures.0))
-
-pub overflow_add-result : goal.overflow_add-result
-overflow_add-result c = omega (arith, behind c.four-part.ensures.0 (omega arith))
 
 pub returns : goal.returns
 returns c =
