@@ -30,7 +30,7 @@ pub record FrameParts (r : Record) (fs : List (List ℕ)) : Type 0 where
   pub id : List ℕ
   pub bytes : List (List ℕ)
   pub are : fs ≡ parts_with r.bus r id bytes
-  pub id_digits_lem : Hex (3 + 5 * r.extended) r.id id
+  pub id_hex : Hex (3 + 5 * r.extended) r.id id
   pub byte_digits : ByteFields Nothing (256 ^ 7) r.len r.«data» bytes
   pub fits : FrameFits r
 
@@ -46,7 +46,7 @@ from_parts {r} p =
     rest : FromDirection r (behind r p.id p.bytes)
     rest =
         let f = p.fits in
-        from_direction (record { bytes = refl; few = f.kind }) (from_id (record { digits = p.id_digits_lem; standard = f.standard; long = f.id }) (from_length (record { small = f.len; spelled = refl }) p.byte_digits))
+        from_direction (record { bytes = refl; few = f.kind }) (from_id (record { digits = p.id_hex; standard = f.standard; long = f.id }) (from_length (record { small = f.len; spelled = refl }) p.byte_digits))
 
     go : Dec (r.extended ≡ 1) → FromExtended r (extended_texts r.extended ++ behind r p.id p.bytes)
     go (yes e) = rw (extended_texts_lem e) (word e refl rest)
@@ -58,7 +58,7 @@ to_parts (from_type t (from_channel c (from_bar b (no_word e (from_direction d (
   id = i';
   bytes = fs;
   are = rw (t.bytes, c.bytes, b, no_texts e, d.bytes, l.spelled);
-  id_digits_lem = i.digits;
+  id_hex = i.digits;
   byte_digits = bs;
   fits = record { channel = c.high; kind = d.few; extended = t.few; standard = i.standard; id = i.long; len = l.small };
 }
@@ -66,7 +66,7 @@ to_parts (from_type t (from_channel c (from_bar b (word e x (from_direction d (f
   id = i';
   bytes = fs;
   are = rw (t.bytes, c.bytes, b, extended_texts_lem e, x, d.bytes, l.spelled);
-  id_digits_lem = i.digits;
+  id_hex = i.digits;
   byte_digits = bs;
   fits = record { channel = c.high; kind = d.few; extended = t.few; standard = i.standard; id = i.long; len = l.small };
 }

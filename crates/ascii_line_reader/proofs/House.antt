@@ -152,7 +152,7 @@ house_frame {r} f w = record {
   id = id_digits r;
   bytes = byte_texts Small (256 ^ 7) r.len r.«data»;
   are = refl;
-  id_digits_lem = rw id (hex_spells Small (3 + 5 * r.extended) r.id (wide (ℕ_discrete r.extended 0)));
+  id_hex = rw id (hex_spells Small (3 + 5 * r.extended) r.id (wide (ℕ_discrete r.extended 0)));
   byte_digits = bytes_spelled Small Nothing nothing r.«data» r.len 7 (256 ^ 7) r.«data» refl f.len w.past (sym (mod-eq_of_lt w.eight));
   fits = f;
 }
@@ -171,7 +171,7 @@ module _ {s : DateTime} {r : Record} (t : StampFits s) (f : FrameFits r) (w : We
       record {
         parts = date_text s.date ∷ time_text s.time ∷ part_texts r.bus r;
         apart = apart (date_part (short_date t)) parts;
-        spelled = record { id = k.id; bytes = k.bytes; are = ap (λ (fs : List (List ℕ)). date_text s.date ∷ time_text s.time ∷ fs) k.are; id_digits_lem = k.id_digits_lem; byte_digits = k.byte_digits };
+        spelled = record { id = k.id; bytes = k.bytes; are = ap (λ (fs : List (List ℕ)). date_text s.date ∷ time_text s.time ∷ fs) k.are; id_hex = k.id_hex; byte_digits = k.byte_digits };
         stamp = t;
         frame = f;
       }

@@ -47,7 +47,7 @@ line_moved o a =
     record {
       parts = a.parts;
       apart = a.apart;
-      spelled = record { id = s.id; bytes = s.bytes; are = s.are; id_digits_lem = s.id_digits_lem; byte_digits = s.byte_digits };
+      spelled = record { id = s.id; bytes = s.bytes; are = s.are; id_hex = s.id_hex; byte_digits = s.byte_digits };
       stamp = a.stamp;
       frame = record {
         channel = f.channel;

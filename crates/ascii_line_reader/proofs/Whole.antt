@@ -32,7 +32,7 @@ later {line = line} {f = f} {g = g} {gs = gs} l p e z = go l.front l.whole (omeg
 -- The parts behind the stamp of a line.
 abbrev frame_parts : {s : DateTime} {r : Record} {line : List ℕ} {gs : List (List ℕ)} (a : AsciiLine s r line) → gs ≡ parts_with r.bus r a.spelled.id a.spelled.bytes
     → FrameParts r gs
-frame_parts a e = record { id = a.spelled.id; bytes = a.spelled.bytes; are = e; id_digits_lem = a.spelled.id_digits_lem; byte_digits = a.spelled.byte_digits; fits = a.frame }
+frame_parts a e = record { id = a.spelled.id; bytes = a.spelled.bytes; are = e; id_hex = a.spelled.id_hex; byte_digits = a.spelled.byte_digits; fits = a.frame }
 
 pub line_frame : {s : DateTime} {r : Record} {line f g : List ℕ} {fs gs : List (List ℕ)} → AsciiLine s r line → Parted fs line → fs ≡ f ∷ g ∷ gs → FromType r gs
 line_frame {s} {r} {f = f} {g = g} {gs = gs} a p e =
@@ -77,7 +77,7 @@ module _ {line w : List ℕ} {at : ℕ} {s : Scan} (read : (fs : List (List ℕ)
                   id = k.id;
                   bytes = k.bytes;
                   are = e ∙ ap (λ (m : List (List ℕ)). date_text d.date ∷ time_text d.time ∷ m) k.are;
-                  id_digits_lem = k.id_digits_lem;
+                  id_hex = k.id_hex;
                   byte_digits = k.byte_digits;
                 };
                 stamp = q;

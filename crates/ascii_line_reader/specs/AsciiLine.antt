@@ -28,7 +28,7 @@ pub record LineParts (s : DateTime) (r : Record) (parts : List (List ℕ)) : Typ
   pub id : List ℕ
   pub bytes : List (List ℕ)
   pub are : parts ≡ date_text s.date ∷ time_text s.time ∷ parts_with r.bus r id bytes
-  pub id_digits_lem : Hex (3 + 5 * r.extended) r.id id
+  pub id_hex : Hex (3 + 5 * r.extended) r.id id
   pub byte_digits : ByteFields Nothing (256 ^ 7) r.len r.«data» bytes
 
 -- The same record with this offset.
