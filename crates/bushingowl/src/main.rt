@@ -1,10 +1,14 @@
 // The bench program: one trace from standard input, its ASCII export or its refusal to standard output.
-ghost use Rattle.std.specs.Prelude.{◌≤◌, ◌<◌, ◌≡◌, length, take};
-ghost use Rattle.io.specs.Counts.{IsPrefixLen};
+#![tactic(auto)]
+
+ghost use Rattle.std.specs.Prelude.{◌≤◌, ◌<◌, ◌≡◌, length, take, IfOk};
+ghost use Rattle.std.specs.Io.{ReadsAtMost};
+ghost use Rattle.std.specs.Io.KnownBytes.{Consumes, IsAtEnd};
 ghost use Rattle.convert.specs.Promise.{input_limit, records_room, page_room, Prints};
 
 use convert::{INPUT_LIMIT, Printed, convert};
-use libc::{STDERR_FILENO, STDIN_FILENO, STDOUT_FILENO};
+use std::io;
+use std::io::Read;
 
 // One byte more than the most that an input may have.
 const SPACE: usize = INPUT_LIMIT + 1;
@@ -32,13 +36,23 @@ fn page_space() -> [u8; PAGE]
     [0; PAGE]
 }
 
-// Takes standard input into a space with room for more than an input may have: so what fills the space is too long, and no first part of it is
+// Takes a reader into a space with room for more than an input may have: so what fills the space is too long, and no first part of it is
 // taken for a whole trace.
-fn taken(space: &mut [u8]) -> usize
+fn taken<R: Read>(from: &mut R, space: &mut [u8]) -> io::Result<usize>
     requires { input_limit < length space.old }
-    ensures { IsPrefixLen result space.new }
+    ensures bound { ReadsAtMost result space.new }
+    ensures bytes { IfOk result (λ n. Consumes (R.remaining from.old) (R.remaining from.new) (take n space.new)) }
+    ensures whole { IfOk result (λ n. n < length space.new → IsAtEnd (R.remaining from.new)) }
 {
-    io::read_full(STDIN_FILENO, space)
+    let mut done = 0;
+    while done < space.len() {
+        let n = from.read(&mut space[done..])?;
+        if n == 0 {
+            return Ok(done);
+        }
+        done += n;
+    }
+    Ok(done)
 }
 
 // Puts what is to be printed for an input at the start of the page, which has room for it, and gives its length.
@@ -55,33 +69,37 @@ fn paged(input: &[u8], records: &mut [u8], page: &mut [u8]) -> usize
     }
 }
 
-// Prints the first n bytes of a page, and says whether all of them could be written.
-fn print(page: &[u8], n: usize) -> bool
+// Prints the first n bytes of a page, all of them or with an error.
+fn print(rt: &impl Print, page: &[u8], n: usize) -> io::Result<()>
     requires { n ≤ length page.now }
 {
-    io::write_all(STDOUT_FILENO, &page[0..n])
+    rt.write_all(&page[0..n])
 }
 
-// Whether standard input can't be read, as one that fails before its end. At its end a read gives 0.
-fn failed() -> bool {
+// Whether a reader can't be read, as one that fails before its end. At its end a read gives 0.
+fn failed(from: &mut impl Read) -> bool {
     let mut more = [0u8; 1];
-    libc::read(STDIN_FILENO, &mut more) < 0
+    from.read(&mut more).is_err()
 }
 
-fn main() {
+fn unread(rt: &impl Eprint) -> io::Result<()> {
+    rt.eprintln("bushingowl: standard input can't be read")
+}
+
+fn main(rt: HostRuntime) -> io::Result<()> {
     let mut input = input_space();
     let mut records = records_space();
     let mut page = page_space();
-    let got = taken(&mut input);
-    if failed() {
-        io::write_all(STDERR_FILENO, b"bushingowl: standard input can't be read\n");
-        return;
+    let mut stdin = rt.stdin();
+    let Ok(got) = taken(&mut stdin, &mut input) else {
+        return unread(&rt);
+    };
+    if failed(&mut stdin) {
+        return unread(&rt);
     }
     let n = paged(&input[..got], &mut records, &mut page);
-    if !print(&page, n) {
-        io::write_all(
-            STDERR_FILENO,
-            b"bushingowl: standard output can't be written\n",
-        );
+    if print(&rt, &page, n).is_err() {
+        return rt.eprintln("bushingowl: standard output can't be written");
     }
+    Ok(())
 }

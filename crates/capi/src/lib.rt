@@ -1,5 +1,7 @@
 // The boundary to C: each function below as one that C can call, described in `include/bushingowl.h`. A slice is a pointer and then a length.
 // The answer goes to the caller's array, as the numbers of paper 01. In words: docs/FORMAT.md, sections 11, 14 and 15.
+#![tactic(auto)]
+
 ghost use Rattle.std.specs.Prelude.{◌≡◌};
 ghost use Rattle.record.specs.Promise.{PackPromise, UnpackPromise};
 ghost use Rattle.record.specs.Record.{record_of, mark_in};

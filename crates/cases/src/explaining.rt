@@ -1,5 +1,6 @@
 // Cases of explaining a line that is no row.
 use explain::{Explained, explain};
+use std::io;
 use testing::{before, behind, front, number, numbers};
 
 // The words `explain` and `begin`, in their letters.
@@ -8,36 +9,36 @@ const EXPLAIN: u64 = 0x6578706C61696E;
 const BEGIN: u64 = 0x626567696E;
 
 // Number, place, reason (1 wrong field, 2 ended early) and field.
-fn four(n: u64, reason: u64, field: u64) {
-    number(n);
-    number(0);
-    number(reason);
-    number(field);
+fn four(rt: &impl Print, n: u64, reason: u64, field: u64) -> io::Result<()> {
+    number(rt, n)?;
+    number(rt, 0)?;
+    number(rt, reason)?;
+    number(rt, field)
 }
 
 // Explains a line as the row with a number.
-fn explained(s: &[u8], version: u64, k: u64) {
+fn explained(rt: &impl Print, s: &[u8], version: u64, k: u64) -> io::Result<()> {
     let x = explain(s, version, k);
     match x {
-        Explained::Wrong(i) => four(0, 1, i),
-        Explained::Early(i) => four(0, 2, i),
-        Explained::Refused(n) => four(n, 0, 0),
+        Explained::Wrong(i) => four(rt, 0, 1, i),
+        Explained::Early(i) => four(rt, 0, 2, i),
+        Explained::Refused(n) => four(rt, n, 0, 0),
     }
 }
 
 // Tries a case of explaining, if the word is one. The line stands behind a colon and a blank.
-pub(crate) fn tried(word: u64, line: &[u8]) -> bool {
+pub(crate) fn tried(rt: &impl Print, word: u64, line: &[u8]) -> io::Result<bool> {
     let a = numbers(before(line, b':'), 2, 2);
     let s = behind(behind(line, b':'), b' ');
     match word {
         EXPLAIN => {
-            explained(s, a[0], a[1]);
-            true
+            explained(rt, s, a[0], a[1])?;
+            Ok(true)
         }
         BEGIN => {
-            explained(front(s, a[2] as usize), a[0], a[1]);
-            true
+            explained(rt, front(s, a[2] as usize), a[0], a[1])?;
+            Ok(true)
         }
-        _ => false,
+        _ => Ok(false),
     }
 }

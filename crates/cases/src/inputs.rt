@@ -2,6 +2,7 @@
 ghost use Rattle.std.specs.Prelude.{◌≡◌, length};
 
 use convert::Printed;
+use std::io;
 use testing::{before, behind, fill, front, none, number, numbers, output, put, rest};
 
 // The words `convert`, `long` and `noise`, in their letters.
@@ -31,41 +32,48 @@ fn page_space() -> [u8; 313040]
 }
 
 // What is printed: its length and its bytes, or none where what is lent is too short.
-fn printed(r: Printed, page: &[u8]) {
+fn printed(rt: &impl Print, r: Printed, page: &[u8]) -> io::Result<()> {
     match r {
         Printed::Page(n) => {
-            number(n as u64);
-            output(page, n);
+            number(rt, n as u64)?;
+            output(rt, page, n)
         }
         Printed::Short => {
-            none();
-            rest(page, 0);
+            none(rt)?;
+            rest(rt, page, 0)
         }
     }
 }
 
 // Converts an input with the first r bytes for records, and the first p of a page.
-fn parts(input: &[u8], r: usize, p: usize, records: &mut [u8], page: &mut [u8]) {
+fn parts(
+    rt: &impl Print,
+    input: &[u8],
+    r: usize,
+    p: usize,
+    records: &mut [u8],
+    page: &mut [u8],
+) -> io::Result<()> {
     if records.len() < r {
-        return;
+        return Ok(());
     }
     if page.len() < p {
-        return;
+        return Ok(());
     }
     let a = convert::convert(input, &mut records[0..r], &mut page[0..p]);
-    printed(a, page);
+    printed(rt, a, page)
 }
 
 // Converts an input, with so many bytes lent for records, and so many for the page.
-fn converted(input: &[u8], r: usize, p: usize) {
+fn converted(rt: &impl Print, input: &[u8], r: usize, p: usize) -> io::Result<()> {
     let mut records = records_space();
     let mut page = page_space();
-    parts(input, r, p, &mut records, &mut page);
+    parts(rt, input, r, p, &mut records, &mut page)
 }
 
 // Converts the first n bytes of a long input, with all that the program lends.
-fn first(input: &[u8], n: usize) {
-    converted(front(input, n), 72800, 313040);
+fn first(rt: &impl Print, input: &[u8], n: usize) -> io::Result<()> {
+    converted(rt, front(input, n), 72800, 313040)
 }
 
 // Puts a line that takes a number, and gives the position after it.
@@ -88,13 +96,13 @@ fn put_lines(out: &mut [u8], at: usize, line: &[u8], n: u64) -> usize {
 }
 
 // A text before a bar, so many times the line between two bars, and the text behind them.
-fn long(s: &[u8], n: u64) {
+fn long(rt: &impl Print, s: &[u8], n: u64) -> io::Result<()> {
     let mut input = input_space();
     let rest = behind(s, b'|');
     let p = put(&mut input, 0, before(s, b'|'));
     let q = put_lines(&mut input, p, before(rest, b'|'), n);
     let end = put(&mut input, q, behind(rest, b'|'));
-    first(&input, end);
+    first(rt, &input, end)
 }
 
 // The next number of a generator.
@@ -129,31 +137,31 @@ fn put_noise(out: &mut [u8], at: usize, seed: u64, n: u64, low: u64) -> usize {
 }
 
 // The text before a bar, noise, and the text behind the bar.
-fn noise(s: &[u8], seed: u64, n: u64, low: u64) {
+fn noise(rt: &impl Print, s: &[u8], seed: u64, n: u64, low: u64) -> io::Result<()> {
     let mut input = input_space();
     let p = put(&mut input, 0, before(s, b'|'));
     let q = put_noise(&mut input, p, seed, n, low);
     let end = put(&mut input, q, behind(s, b'|'));
-    first(&input, end);
+    first(rt, &input, end)
 }
 
 // Tries a case of converting, if the word is one. The text stands behind a colon and a blank.
-pub(crate) fn tried(word: u64, line: &[u8]) -> bool {
+pub(crate) fn tried(rt: &impl Print, word: u64, line: &[u8]) -> io::Result<bool> {
     let a = numbers(before(line, b':'), 2, 2);
     let s = behind(behind(line, b':'), b' ');
     match word {
         CONVERT => {
-            converted(s, a[0] as usize, a[1] as usize);
-            true
+            converted(rt, s, a[0] as usize, a[1] as usize)?;
+            Ok(true)
         }
         LONG => {
-            long(s, a[0]);
-            true
+            long(rt, s, a[0])?;
+            Ok(true)
         }
         NOISE => {
-            noise(s, a[0], a[1], a[2]);
-            true
+            noise(rt, s, a[0], a[1], a[2])?;
+            Ok(true)
         }
-        _ => false,
+        _ => Ok(false),
     }
 }

@@ -1,5 +1,7 @@
 // Runs the library's functions on either side of every limit. The cases are the lines of `stdin`, which says how they are written. A line that is
 // printed shows what is tried and what comes back. What is printed is compared with `stdout`.
+#![tactic(auto)]
+
 mod explaining;
 mod inputs;
 mod reading;
@@ -11,8 +13,10 @@ mod time;
 mod writing;
 
 ghost use Rattle.std.specs.Prelude.{◌≡◌, ◌≤◌, ◌<◌, length};
+ghost use Rattle.std.specs.Io.{ReadsAtMost};
 
-use libc::STDIN_FILENO;
+use std::io;
+use std::io::Read;
 use testing::{before, behind, byte, fill, find, front, key, shown, text, value};
 
 // Room for a case with two fields that are longer than a window.
@@ -30,94 +34,95 @@ fn cases_space() -> [u8; 524288]
 }
 
 // Tries a case of records, if the word is one.
-fn of_records(word: u64, line: &[u8]) -> bool {
-    if records::tried(word, line) {
-        return true;
+fn of_records(rt: &impl Print, word: u64, line: &[u8]) -> io::Result<bool> {
+    if records::tried(rt, word, line)? {
+        return Ok(true);
     }
-    if rows::tried(word, line) {
-        return true;
+    if rows::tried(rt, word, line)? {
+        return Ok(true);
     }
-    writing::tried(word, line)
+    writing::tried(rt, word, line)
 }
 
 // Tries a case of numbers, if the word is one.
-fn of_numbers(word: u64, line: &[u8]) -> bool {
-    if strings::tried(word, line) {
-        return true;
+fn of_numbers(rt: &impl Print, word: u64, line: &[u8]) -> io::Result<bool> {
+    if strings::tried(rt, word, line)? {
+        return Ok(true);
     }
-    time::tried(word, line)
+    time::tried(rt, word, line)
 }
 
 // Tries a case of a text or of a line, if the word is one.
-fn of_texts(word: u64, line: &[u8]) -> bool {
-    if reading::tried(word, line) {
-        return true;
+fn of_texts(rt: &impl Print, word: u64, line: &[u8]) -> io::Result<bool> {
+    if reading::tried(rt, word, line)? {
+        return Ok(true);
     }
-    if returned::tried(word, line) {
-        return true;
+    if returned::tried(rt, word, line)? {
+        return Ok(true);
     }
-    explaining::tried(word, line)
+    explaining::tried(rt, word, line)
 }
 
 // One case. Its first word says what is tried.
-fn tried(line: &[u8]) {
+fn tried(rt: &impl Print, line: &[u8]) -> io::Result<()> {
     let word = key(before(before(line, b' '), b':'));
-    if of_texts(word, line) {
-        return;
+    if of_texts(rt, word, line)? {
+        return Ok(());
     }
-    if of_records(word, line) {
-        return;
+    if of_records(rt, word, line)? {
+        return Ok(());
     }
-    if of_numbers(word, line) {
-        return;
+    if of_numbers(rt, word, line)? {
+        return Ok(());
     }
-    if inputs::tried(word, line) {
-        return;
+    if inputs::tried(rt, word, line)? {
+        return Ok(());
     }
-    text(b" no such case");
+    text(rt, b" no such case")
 }
 
 // A line with its number and the text that `%` stands for. What is printed of it has `%` itself.
-fn case(line: &[u8], n: u64, given: &[u8]) {
+fn case(rt: &impl Print, line: &[u8], n: u64, given: &[u8]) -> io::Result<()> {
     let mut filled = line_space();
     let printed = fill(&mut filled, line, n, b"%");
-    shown(front(&filled, printed));
-    text(b" ->");
+    shown(rt, front(&filled, printed))?;
+    text(rt, b" ->")?;
     let end = fill(&mut filled, line, n, given);
-    tried(front(&filled, end));
-    byte(b'\n');
+    tried(rt, front(&filled, end))?;
+    byte(rt, b'\n')
 }
 
 // A case for each number from the first to the last.
-fn each(line: &[u8], first: u64, last: u64, given: &[u8]) {
+fn each(rt: &impl Print, line: &[u8], first: u64, last: u64, given: &[u8]) -> io::Result<()> {
     let mut n = first;
     while n < last {
-        case(line, n, given);
+        case(rt, line, n, given)?;
         n += 1;
     }
-    case(line, last, given);
+    case(rt, line, last, given)
 }
 
 // A family of cases: its first number, its last, and the case.
-fn family(line: &[u8], given: &[u8]) {
+fn family(rt: &impl Print, line: &[u8], given: &[u8]) -> io::Result<()> {
     let rest = behind(line, b' ');
     each(
+        rt,
         behind(rest, b' '),
         value(before(line, b' ')),
         value(before(rest, b' ')),
         given,
-    );
+    )
 }
 
 // The cases of a line.
-fn cases(line: &[u8], given: &[u8]) {
+fn cases(rt: &impl Print, line: &[u8], given: &[u8]) -> io::Result<()> {
     if line.len() == 0 {
-        return;
+        return Ok(());
     }
     match line[0] {
-        b'/' | b'%' => (),
-        b'0'..=b'9' => family(line, given),
-        _ => case(line, 0, given),
+        b'/' | b'%' => Ok(()),
+        b'0'..=b'9' => family(rt, line, given),
+        _ => case(rt, line, 0, given),
     }
 }
 
@@ -133,22 +138,38 @@ fn given_from(s: &[u8], at: usize, before: usize) -> usize
 }
 
 // The cases of all lines. A line that begins with `%` says what `%` stands for from there on.
-fn lines(s: &[u8]) {
+fn lines(rt: &impl Print, s: &[u8]) -> io::Result<()> {
     let mut given = 0;
     let mut at = 0;
     while at < s.len() {
         let end = find(s, at, b'\n');
         given = given_from(s, at, given);
-        cases(&s[at..end], before(&s[given..], b'\n'));
+        cases(rt, &s[at..end], before(&s[given..], b'\n'))?;
         if s.len() <= end {
-            return;
+            return Ok(());
         }
         at = end + 1;
     }
+    Ok(())
 }
 
-fn main() {
+// Reads into a space until it is full or the input ends, and gives how many bytes were read.
+fn taken(from: &mut impl Read, space: &mut [u8]) -> io::Result<usize>
+    ensures { ReadsAtMost result space.new }
+{
+    let mut done = 0;
+    while done < space.len() {
+        let n = from.read(&mut space[done..])?;
+        if n == 0 {
+            return Ok(done);
+        }
+        done += n;
+    }
+    Ok(done)
+}
+
+fn main(rt: HostRuntime) -> io::Result<()> {
     let mut input = cases_space();
-    let got = io::read_full(STDIN_FILENO, &mut input);
-    lines(&input[..got]);
+    let got = taken(&mut rt.stdin(), &mut input)?;
+    lines(&rt, &input[..got])
 }

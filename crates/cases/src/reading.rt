@@ -2,6 +2,7 @@
 use crate::records::fields;
 use crate::writing::{exported, page, written};
 use row_reader::Reading;
+use std::io;
 use testing::{before, behind, bytes, front, none, number, numbers, rest};
 use trace::Outcome;
 
@@ -15,14 +16,23 @@ const AGAIN: u64 = 0x616761696E;
 const ROW: u64 = 0x726F77;
 
 // Number, place, version, start, rows, first step back and first number.
-fn seven(n: u64, place: u64, version: u64, start: u64, rows: u64, step_back: u64, first: u64) {
-    number(n);
-    number(place);
-    number(version);
-    number(start);
-    number(rows);
-    number(step_back);
-    number(first);
+fn seven(
+    rt: &impl Print,
+    n: u64,
+    place: u64,
+    version: u64,
+    start: u64,
+    rows: u64,
+    step_back: u64,
+    first: u64,
+) -> io::Result<()> {
+    number(rt, n)?;
+    number(rt, place)?;
+    number(rt, version)?;
+    number(rt, start)?;
+    number(rt, rows)?;
+    number(rt, step_back)?;
+    number(rt, first)
 }
 
 // How many bytes so many records are; there are few in these cases.
@@ -33,12 +43,12 @@ pub(crate) fn size(rows: u64) -> usize {
     rows as usize * 20
 }
 
-pub(crate) fn packed(out: &[u8], end: usize) {
-    bytes(front(out, end));
-    rest(out, end);
+pub(crate) fn packed(rt: &impl Print, out: &[u8], end: usize) -> io::Result<()> {
+    bytes(rt, front(out, end))?;
+    rest(rt, out, end)
 }
 
-fn answer(a: Outcome, out: &[u8]) {
+fn answer(rt: &impl Print, a: Outcome, out: &[u8]) -> io::Result<()> {
     match a {
         Outcome::Done {
             version,
@@ -47,31 +57,32 @@ fn answer(a: Outcome, out: &[u8]) {
             step_back,
             first,
         } => {
-            seven(0, 0, version, start, rows, step_back, first);
-            packed(out, size(rows));
+            seven(rt, 0, 0, version, start, rows, step_back, first)?;
+            packed(rt, out, size(rows))
         }
         Outcome::Refused { number: n, place } => {
-            seven(n, place, 0, 0, 0, 0, 0);
-            rest(out, 0);
+            seven(rt, n, place, 0, 0, 0, 0, 0)?;
+            rest(rt, out, 0)
         }
     }
 }
 
-fn read_into(s: &[u8], out: &mut [u8], room: usize) {
+fn read_into(rt: &impl Print, s: &[u8], out: &mut [u8], room: usize) -> io::Result<()> {
     if room <= out.len() {
         let a = trace::read(s, &mut out[0..room]);
-        answer(a, out);
+        answer(rt, a, out)?;
     }
+    Ok(())
 }
 
 // Reads a text into the first `room` bytes of a page.
-pub(crate) fn read(s: &[u8], room: usize) {
+pub(crate) fn read(rt: &impl Print, s: &[u8], room: usize) -> io::Result<()> {
     let mut out = page();
-    read_into(s, &mut out, room);
+    read_into(rt, s, &mut out, room)
 }
 
 // Reads a text of three rows, writes it again and exports it, bus 0 as a channel.
-fn again(s: &[u8], room: usize, channel: u64) {
+fn again(rt: &impl Print, s: &[u8], room: usize, channel: u64) -> io::Result<()> {
     let mut records = [238u8; 60];
     let a = trace::read(s, &mut records);
     match a {
@@ -82,46 +93,46 @@ fn again(s: &[u8], room: usize, channel: u64) {
             step_back: _,
             first,
         } => {
-            written(version, start, first, &records, room);
-            exported(start, channel, &records, room, false);
+            written(rt, version, start, first, &records, room)?;
+            exported(rt, start, channel, &records, room, false)
         }
         Outcome::Refused {
             number: _,
             place: _,
-        } => none(),
+        } => none(rt),
     }
 }
 
 // Reads a line as the row with a number.
-fn row(s: &[u8], version: u64, k: u64) {
+fn row(rt: &impl Print, s: &[u8], version: u64, k: u64) -> io::Result<()> {
     let a = row_reader::read_row(s, version, k);
     match a {
-        Reading::Is(r) => fields(r),
-        Reading::Not => none(),
+        Reading::Is(r) => fields(rt, r),
+        Reading::Not => none(rt),
     }
 }
 
 // Tries a case of reading, if the word is one. What is read stands behind a colon and a blank.
-pub(crate) fn tried(word: u64, line: &[u8]) -> bool {
+pub(crate) fn tried(rt: &impl Print, word: u64, line: &[u8]) -> io::Result<bool> {
     let a = numbers(before(line, b':'), 2, 2);
     let s = behind(behind(line, b':'), b' ');
     match word {
         READ => {
-            read(s, a[0] as usize);
-            true
+            read(rt, s, a[0] as usize)?;
+            Ok(true)
         }
         CUT => {
-            read(front(s, a[1] as usize), a[0] as usize);
-            true
+            read(rt, front(s, a[1] as usize), a[0] as usize)?;
+            Ok(true)
         }
         AGAIN => {
-            again(s, a[0] as usize, a[1]);
-            true
+            again(rt, s, a[0] as usize, a[1])?;
+            Ok(true)
         }
         ROW => {
-            row(s, a[0], a[1]);
-            true
+            row(rt, s, a[0], a[1])?;
+            Ok(true)
         }
-        _ => false,
+        _ => Ok(false),
     }
 }

@@ -1,9 +1,9 @@
 // Cases of packing and unpacking one record, and the bytes of records that are given in words.
 ghost use Rattle.std.specs.Prelude.{◌≡◌, ◌+◌, ◌≤◌, ◌<◌, length};
 
-use libc::STDOUT_FILENO;
 use record::{Packed, Record, Unpacked};
-use testing::{before, behind, byte, bytes, find, front, number, numbers, rest};
+use std::io;
+use testing::{before, behind, bytes, find, front, number, numbers, rest};
 
 // The words `pack` and `unpack`, in their letters.
 const PACK: u64 = 0x7061636B;
@@ -11,22 +11,22 @@ const PACK: u64 = 0x7061636B;
 const UNPACK: u64 = 0x756E7061636B;
 
 // Offset, bus, kind, extended, ID, length and data (in hexadecimal).
-pub(crate) fn fields(r: Record) {
-    number(r.offset);
-    number(r.bus);
-    number(r.kind);
-    number(r.extended);
-    number(r.id);
-    number(r.len);
-    byte(b' ');
-    io::print_hex(STDOUT_FILENO, r.data, 16);
+pub(crate) fn fields(rt: &impl Print, r: Record) -> io::Result<()> {
+    number(rt, r.offset)?;
+    number(rt, r.bus)?;
+    number(rt, r.kind)?;
+    number(rt, r.extended)?;
+    number(rt, r.id)?;
+    number(rt, r.len)?;
+    let data = r.data;
+    print!(rt; " {data:016x}")
 }
 
 // Number and place of a refusal, and whether the output is untouched.
-pub(crate) fn refused(n: u64, place: u64, out: &[u8]) {
-    number(n);
-    number(place);
-    rest(out, 0);
+pub(crate) fn refused(rt: &impl Print, n: u64, place: u64, out: &[u8]) -> io::Result<()> {
+    number(rt, n)?;
+    number(rt, place)?;
+    rest(rt, out, 0)
 }
 
 // The seven fields that begin some numbers.
@@ -42,27 +42,28 @@ pub(crate) fn record_of(a: [u64; 9]) -> Record {
     }
 }
 
-fn packed(a: Packed, out: &[u8; 24]) {
+fn packed(rt: &impl Print, a: Packed, out: &[u8; 24]) -> io::Result<()> {
     let all: &[u8] = out;
     match a {
         Packed::Done => {
-            number(0);
-            number(0);
-            bytes(&all[0..20]);
-            rest(all, 20);
+            number(rt, 0)?;
+            number(rt, 0)?;
+            bytes(rt, &all[0..20])?;
+            rest(rt, all, 20)
         }
-        Packed::Malformed => refused(23, 1, all),
-        Packed::Short => refused(25, 0, all),
+        Packed::Malformed => refused(rt, 23, 1, all),
+        Packed::Short => refused(rt, 25, 0, all),
     }
 }
 
 // Packs a record with a mark into an output of `room` bytes.
-fn pack(r: Record, mark: u64, room: usize) {
+fn pack(rt: &impl Print, r: Record, mark: u64, room: usize) -> io::Result<()> {
     let mut out = [238u8; 24];
     if room <= 24 {
         let a = record::pack(r, mark, &mut out[0..room]);
-        packed(a, &out);
+        packed(rt, a, &out)?;
     }
+    Ok(())
 }
 
 // Puts the `count` bytes of n at a position.
@@ -144,46 +145,46 @@ pub(crate) fn records_of(s: &[u8], k: usize) -> [u8; 300] {
     out
 }
 
-fn unpacked(s: &[u8]) {
-    bytes(s);
+fn unpacked(rt: &impl Print, s: &[u8]) -> io::Result<()> {
+    bytes(rt, s)?;
     let u = record::unpack(s);
     match u {
         Unpacked::Fields { r, mark } => {
-            number(0);
-            number(0);
-            fields(r);
-            number(mark);
+            number(rt, 0)?;
+            number(rt, 0)?;
+            fields(rt, r)?;
+            number(rt, mark)
         }
         Unpacked::NotTwenty => {
-            number(20);
-            number(0);
+            number(rt, 20)?;
+            number(rt, 0)
         }
         Unpacked::Malformed => {
-            number(23);
-            number(1);
+            number(rt, 23)?;
+            number(rt, 1)
         }
     }
 }
 
 // Unpacks the first bytes of a record's bits and what follows them.
-fn unpack(a: [u64; 9]) {
+fn unpack(rt: &impl Print, a: [u64; 9]) -> io::Result<()> {
     let mut s = [238u8; 40];
     put_bits(&mut s, 0, record_of(a), a[7]);
-    unpacked(front(&s, a[8] as usize));
+    unpacked(rt, front(&s, a[8] as usize))
 }
 
 // Tries a case of one record, if the word is one.
-pub(crate) fn tried(word: u64, line: &[u8]) -> bool {
+pub(crate) fn tried(rt: &impl Print, word: u64, line: &[u8]) -> io::Result<bool> {
     let a = numbers(line, 2, 2);
     match word {
         PACK => {
-            pack(record_of(a), a[7], a[8] as usize);
-            true
+            pack(rt, record_of(a), a[7], a[8] as usize)?;
+            Ok(true)
         }
         UNPACK => {
-            unpack(a);
-            true
+            unpack(rt, a)?;
+            Ok(true)
         }
-        _ => false,
+        _ => Ok(false),
     }
 }

@@ -9,6 +9,7 @@ use digits::{Letters, put_decimal};
 use record::Record;
 use row::carries;
 use row_writer::{put_row, row_length};
+use std::io;
 use testing::{none, number, numbers, output};
 
 // The word `put`, in its letters.
@@ -21,7 +22,7 @@ fn line_space() -> [u8; 256]
 }
 
 // Puts a row behind two bytes: its length, the place behind it, those two bytes and the row.
-fn put(version: u64, k: u64, r: Record)
+fn put(rt: &impl Print, version: u64, k: u64, r: Record) -> io::Result<()>
     requires { WellFormed r × Carries r version × (1 ≤ k) × (k ≤ last_number) }
 {
     let size = row_length(version, k, r);
@@ -33,35 +34,36 @@ fn put(version: u64, k: u64, r: Record)
         let t = put_decimal(&mut tens, 0, k / 10);
         let u = put_decimal(&mut seconds, 0, r.offset / 1000 / 1000);
         let end = put_row(&mut out, 2, version, k, r, &tens, t, &seconds, u, &pairs);
-        number(size as u64);
-        number(end as u64);
-        output(&out, end);
+        number(rt, size as u64)?;
+        number(rt, end as u64)?;
+        output(rt, &out, end)?;
     }
+    Ok(())
 }
 
 // Puts the row of a record, if it has one.
-fn row(version: u64, k: u64, r: Record) {
+fn row(rt: &impl Print, version: u64, k: u64, r: Record) -> io::Result<()> {
     if !record::well_formed(r) {
-        return none();
+        return none(rt);
     }
     if !carries(r, version) {
-        return none();
+        return none(rt);
     }
     if k < 1 {
-        return none();
+        return none(rt);
     }
     if 999999 < k {
-        return none();
+        return none(rt);
     }
-    put(version, k, r);
+    put(rt, version, k, r)
 }
 
 // Tries a case of writing one row, if the word is one.
-pub(crate) fn tried(word: u64, line: &[u8]) -> bool {
+pub(crate) fn tried(rt: &impl Print, word: u64, line: &[u8]) -> io::Result<bool> {
     if word != PUT {
-        return false;
+        return Ok(false);
     }
     let a = numbers(line, 2, 2);
-    row(a[0], a[1], record_of(numbers(line, 6, 2)));
-    true
+    row(rt, a[0], a[1], record_of(numbers(line, 6, 2)))?;
+    Ok(true)
 }

@@ -3,6 +3,7 @@ use digits::{
     Letters, Number, decimal_length, put_decimal, put_hex, put_padded, read_decimal, read_hex,
     read_padded,
 };
+use std::io;
 use testing::{behind, none, number, numbers, output};
 
 // The words `decimal`, `padded`, `hex` and `digits`, in their letters.
@@ -14,51 +15,51 @@ const HEX: u64 = 0x686578;
 
 const DIGITS: u64 = 0x646967697473;
 
-fn answer(n: Number) {
+fn answer(rt: &impl Print, n: Number) -> io::Result<()> {
     match n {
-        Number::Value(v) => number(v),
-        Number::Not => none(),
+        Number::Value(v) => number(rt, v),
+        Number::Not => none(rt),
     }
 }
 
 // Puts n in decimal, in w decimal digits, and in w hexadecimal digits of both letter cases, each behind a byte.
-fn digits(n: u64, w: usize) {
+fn digits(rt: &impl Print, n: u64, w: usize) -> io::Result<()> {
     let mut out = [238u8; 88];
     let all: &mut [u8] = &mut out;
     if 20 < decimal_length(n) {
-        return;
+        return Ok(());
     }
     if 16 < w {
-        return;
+        return Ok(());
     }
     let a = put_decimal(all, 1, n);
     let b = put_padded(all, a + 1, w, n);
     let c = put_hex(all, b + 1, w, n, Letters::Capital);
     let d = put_hex(all, c + 1, w, n, Letters::Small);
-    output(all, d);
+    output(rt, all, d)
 }
 
 // Tries a case of digits, if the word is one. What is read stands behind a colon and a blank.
-pub(crate) fn tried(word: u64, line: &[u8]) -> bool {
+pub(crate) fn tried(rt: &impl Print, word: u64, line: &[u8]) -> io::Result<bool> {
     let s = behind(behind(line, b':'), b' ');
     match word {
         DECIMAL => {
-            answer(read_decimal(s));
-            true
+            answer(rt, read_decimal(s))?;
+            Ok(true)
         }
         PADDED => {
-            answer(read_padded(s));
-            true
+            answer(rt, read_padded(s))?;
+            Ok(true)
         }
         HEX => {
-            answer(read_hex(s));
-            true
+            answer(rt, read_hex(s))?;
+            Ok(true)
         }
         DIGITS => {
             let a = numbers(line, 2, 2);
-            digits(a[0], a[1] as usize);
-            true
+            digits(rt, a[0], a[1] as usize)?;
+            Ok(true)
         }
-        _ => false,
+        _ => Ok(false),
     }
 }

@@ -2,6 +2,7 @@
 use base::OFFSET_LIMIT;
 use clock::{CalendarDay, DayTime, START_LIMIT, date_of, day_fraction, stamp_of, start_of};
 use digits::{Number, read_padded};
+use std::io;
 use testing::{before, behind, none, number, numbers};
 
 // The words `start`, `fraction`, `date` and `stamp`, in their letters.
@@ -14,85 +15,85 @@ const DATE: u64 = 0x64617465;
 const STAMP: u64 = 0x7374616D70;
 
 // The start of a day count and of the digits of a fraction.
-fn start(days: u64, fraction: &[u8]) {
+fn start(rt: &impl Print, days: u64, fraction: &[u8]) -> io::Result<()> {
     if 99999 < days {
-        return none();
+        return none(rt);
     }
     if fraction.len() == 0 {
-        return none();
+        return none(rt);
     }
     if 10 < fraction.len() {
-        return none();
+        return none(rt);
     }
     let Number::Value(parts) = read_padded(fraction) else {
-        return none();
+        return none(rt);
     };
-    number(start_of(days, parts, fraction.len() as u64));
+    number(rt, start_of(days, parts, fraction.len() as u64))
 }
 
 // The fraction of a millisecond of a day, and the millisecond of that fraction in the last day.
-fn fraction(ms: u64) {
+fn fraction(rt: &impl Print, ms: u64) -> io::Result<()> {
     if 86399999 < ms {
-        return none();
+        return none(rt);
     }
     let f = day_fraction(ms);
-    number(f);
-    number(start_of(99999, f, 10) % 86400000);
+    number(rt, f)?;
+    number(rt, start_of(99999, f, 10) % 86400000)
 }
 
-fn day(d: CalendarDay) {
-    number(d.day);
-    number(d.month);
-    number(d.year);
+fn day(rt: &impl Print, d: CalendarDay) -> io::Result<()> {
+    number(rt, d.day)?;
+    number(rt, d.month)?;
+    number(rt, d.year)
 }
 
-fn date(days: u64) {
+fn date(rt: &impl Print, days: u64) -> io::Result<()> {
     if 130000 < days {
-        return none();
+        return none(rt);
     }
-    day(date_of(days));
+    day(rt, date_of(days))
 }
 
-fn time(t: DayTime) {
-    number(t.days);
-    number(t.hour);
-    number(t.minute);
-    number(t.second);
-    number(t.part);
+fn time(rt: &impl Print, t: DayTime) -> io::Result<()> {
+    number(rt, t.days)?;
+    number(rt, t.hour)?;
+    number(rt, t.minute)?;
+    number(rt, t.second)?;
+    number(rt, t.part)
 }
 
-fn stamp(start: u64, offset: u64) {
+fn stamp(rt: &impl Print, start: u64, offset: u64) -> io::Result<()> {
     if START_LIMIT < start {
-        return none();
+        return none(rt);
     }
     if OFFSET_LIMIT < offset {
-        return none();
+        return none(rt);
     }
     let s = stamp_of(start, offset);
-    day(s.date);
-    time(s.time);
+    day(rt, s.date)?;
+    time(rt, s.time)
 }
 
 // Tries a case of time, if the word is one. The digits of a fraction stand behind a colon and a blank.
-pub(crate) fn tried(word: u64, line: &[u8]) -> bool {
+pub(crate) fn tried(rt: &impl Print, word: u64, line: &[u8]) -> io::Result<bool> {
     let a = numbers(before(line, b':'), 2, 2);
     match word {
         START => {
-            start(a[0], behind(behind(line, b':'), b' '));
-            true
+            start(rt, a[0], behind(behind(line, b':'), b' '))?;
+            Ok(true)
         }
         FRACTION => {
-            fraction(a[0]);
-            true
+            fraction(rt, a[0])?;
+            Ok(true)
         }
         DATE => {
-            date(a[0]);
-            true
+            date(rt, a[0])?;
+            Ok(true)
         }
         STAMP => {
-            stamp(a[0], a[1]);
-            true
+            stamp(rt, a[0], a[1])?;
+            Ok(true)
         }
-        _ => false,
+        _ => Ok(false),
     }
 }

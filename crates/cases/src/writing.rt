@@ -5,6 +5,7 @@ use crate::reading::read;
 use crate::records::{records_of, refused};
 use crate::returned::read_lines;
 use ascii::Exported;
+use std::io;
 use testing::{before, behind, front, number, numbers, output};
 use trace_writer::Written;
 
@@ -21,99 +22,134 @@ pub(crate) fn page() -> [u8; 700]
 
 // Writes records as a trace, into the first `room` bytes of a page: number, place, bytes and text, and what is
 // read back from it, with room for twelve records.
-fn write_into(version: u64, start: u64, first: u64, records: &[u8], out: &mut [u8], room: usize) {
-    if room <= out.len() {
-        let w = trace_writer::write(version, start, first, records, &mut out[0..room]);
-        match w {
-            Written::Done { bytes } => {
-                number(0);
-                number(0);
-                number(bytes as u64);
-                output(out, bytes);
-                read(front(out, bytes), 240);
-            }
-            Written::Refused { number: n, place } => refused(n, place, out),
+fn write_into(
+    rt: &impl Print,
+    version: u64,
+    start: u64,
+    first: u64,
+    records: &[u8],
+    out: &mut [u8],
+    room: usize,
+) -> io::Result<()> {
+    if out.len() < room {
+        return Ok(());
+    }
+    let w = trace_writer::write(version, start, first, records, &mut out[0..room]);
+    match w {
+        Written::Done { bytes } => {
+            number(rt, 0)?;
+            number(rt, 0)?;
+            number(rt, bytes as u64)?;
+            output(rt, out, bytes)?;
+            read(rt, front(out, bytes), 240)
         }
+        Written::Refused { number: n, place } => refused(rt, n, place, out),
     }
 }
 
-fn lines(bytes: usize, lines: u64, left_out: u64, out: &[u8]) {
-    number(0);
-    number(0);
-    number(bytes as u64);
-    number(lines);
-    number(left_out);
-    output(out, bytes);
+fn lines(rt: &impl Print, bytes: usize, lines: u64, left_out: u64, out: &[u8]) -> io::Result<()> {
+    number(rt, 0)?;
+    number(rt, 0)?;
+    number(rt, bytes as u64)?;
+    number(rt, lines)?;
+    number(rt, left_out)?;
+    output(rt, out, bytes)
 }
 
 // Exports records, bus 0 as a channel, into the first `room` bytes of a page: number, place, bytes, lines, records left out and text; and, if it is
 // wanted, what is read back from it.
-fn export_into(start: u64, channel: u64, records: &[u8], out: &mut [u8], room: usize, back: bool) {
-    if room <= out.len() {
-        let e = ascii::export(start, channel, records, &mut out[0..room]);
-        match e {
-            Exported::Done {
-                bytes,
-                lines: given,
-                left_out,
-            } => {
-                lines(bytes, given, left_out, out);
-                if back {
-                    read_lines(front(out, bytes), 240);
-                }
+fn export_into(
+    rt: &impl Print,
+    start: u64,
+    channel: u64,
+    records: &[u8],
+    out: &mut [u8],
+    room: usize,
+    back: bool,
+) -> io::Result<()> {
+    if out.len() < room {
+        return Ok(());
+    }
+    let e = ascii::export(start, channel, records, &mut out[0..room]);
+    match e {
+        Exported::Done {
+            bytes,
+            lines: given,
+            left_out,
+        } => {
+            lines(rt, bytes, given, left_out, out)?;
+            if back {
+                read_lines(rt, front(out, bytes), 240)?;
             }
-            Exported::Refused { number: n, place } => refused(n, place, out),
+            Ok(())
         }
+        Exported::Refused { number: n, place } => refused(rt, n, place, out),
     }
 }
 
-pub(crate) fn written(version: u64, start: u64, first: u64, records: &[u8], room: usize) {
+pub(crate) fn written(
+    rt: &impl Print,
+    version: u64,
+    start: u64,
+    first: u64,
+    records: &[u8],
+    room: usize,
+) -> io::Result<()> {
     let mut out = page();
-    write_into(version, start, first, records, &mut out, room);
+    write_into(rt, version, start, first, records, &mut out, room)
 }
 
-pub(crate) fn exported(start: u64, channel: u64, records: &[u8], room: usize, back: bool) {
+pub(crate) fn exported(
+    rt: &impl Print,
+    start: u64,
+    channel: u64,
+    records: &[u8],
+    room: usize,
+    back: bool,
+) -> io::Result<()> {
     let mut out = page();
-    export_into(start, channel, records, &mut out, room, back);
+    export_into(rt, start, channel, records, &mut out, room, back)
 }
 
 // Writes the first bytes of records.
-fn write(a: [u64; 9], s: &[u8]) {
+fn write(rt: &impl Print, a: [u64; 9], s: &[u8]) -> io::Result<()> {
     let records = records_of(s, a[5] as usize);
     written(
+        rt,
         a[0],
         a[1],
         a[2],
         front(&records, a[3] as usize),
         a[4] as usize,
-    );
+    )
 }
 
 // Exports the first bytes of records.
-fn export(a: [u64; 9], s: &[u8]) {
+fn export(rt: &impl Print, a: [u64; 9], s: &[u8]) -> io::Result<()> {
     let records = records_of(s, a[4] as usize);
     exported(
+        rt,
         a[0],
         a[1],
         front(&records, a[2] as usize),
         a[3] as usize,
         false,
-    );
+    )
 }
 
 // Tries a case of several records, if the word is one. The records stand behind a colon and a blank.
-pub(crate) fn tried(word: u64, line: &[u8]) -> bool {
+pub(crate) fn tried(rt: &impl Print, word: u64, line: &[u8]) -> io::Result<bool> {
     let a = numbers(before(line, b':'), 2, 2);
     let s = behind(behind(line, b':'), b' ');
     match word {
         WRITE => {
-            write(a, s);
-            true
+            write(rt, a, s)?;
+            Ok(true)
         }
         EXPORT => {
-            export(a, s);
-            true
+            export(rt, a, s)?;
+            Ok(true)
         }
-        _ => false,
+        _ => Ok(false),
     }
 }

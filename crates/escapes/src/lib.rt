@@ -1,4 +1,6 @@
 // Texts with escapes: `\r`, `\n`, `\t`, a backslash as `\\`, and any byte as `\xff`. At each byte it is known what is begun by those before it.
+#![tactic(auto)]
+
 ghost use Rattle.std.specs.Prelude.{◌≡◌, List, [], ◌∷◌, ◌++◌, ℕ};
 ghost use Rattle.escapes.specs.Escapes.{StandsFor, Begun, After};
 

@@ -60,7 +60,7 @@ pub every_word : {v w : ℕ} (s a : List ℕ) (first step k : ℕ) → k < 9 →
 every_word s a first step k h p q n x y = n (one_value p (x k h) ∙ one_value (y k h) q)
 
 -- the letters as digits of another base, below 256
-no_more : {s : List ℕ} {c m k : ℕ} → c < 256 → Digits Letter c s m → Digits Letter 256 s k → m ≤ k
+no_more : {c : ℕ} {s : List ℕ} {m k : ℕ} → c < 256 → Digits Letter c s m → Digits Letter 256 s k → m ≤ k
 no_more h none none = omega arith
 no_more {c = c} h (more {d = d} {s = s} p r e) (more q t f) =
     let l : c ≤ 256 = omega arith in

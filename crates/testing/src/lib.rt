@@ -1,4 +1,6 @@
 // What the test program shares: the parts of a line, lines that take a number, and how answers are printed.
+#![tactic(auto)]
+
 mod print;
 mod template;
 mod words;

@@ -1,77 +1,70 @@
 // How answers are printed: numbers and bytes behind a blank each, texts in one line.
 use crate::words::front;
-use base::wide;
-use libc::STDOUT_FILENO;
+use std::io;
 
-pub fn text(s: &[u8]) {
-    io::write_all(STDOUT_FILENO, s);
+pub fn text(rt: &impl Print, s: &[u8]) -> io::Result<()> {
+    rt.write_all(s)
 }
 
-pub fn byte(b: u8) {
+pub fn byte(rt: &impl Print, b: u8) -> io::Result<()> {
     let one = [b];
-    text(&one);
+    text(rt, &one)
 }
 
-pub fn number(n: u64) {
-    byte(b' ');
-    io::print_decimal(STDOUT_FILENO, n);
+pub fn number(rt: &impl Print, n: u64) -> io::Result<()> {
+    print!(rt; " {n}")
 }
 
 // What stands for an answer that there is not.
-pub fn none() {
-    text(b" none");
+pub fn none(rt: &impl Print) -> io::Result<()> {
+    text(rt, b" none")
 }
 
 // Bytes in hexadecimal.
-pub fn bytes(s: &[u8]) {
-    byte(b' ');
-    let mut i = 0;
-    while i < s.len() {
-        io::print_hex(STDOUT_FILENO, wide(s[i]), 2);
-        i += 1;
+pub fn bytes(rt: &impl Print, s: &[u8]) -> io::Result<()> {
+    byte(rt, b' ')?;
+    for b in s {
+        print!(rt; "{b:02x}")?;
     }
+    Ok(())
 }
 
 // A backslash and a letter.
-fn escape(b: u8) {
-    byte(b'\\');
-    byte(b);
+fn escape(rt: &impl Print, b: u8) -> io::Result<()> {
+    byte(rt, b'\\')?;
+    byte(rt, b)
 }
 
 // A byte of a text: CR, LF and what is no printable letter as they are written in a case.
-fn letter(b: u8) {
+fn letter(rt: &impl Print, b: u8) -> io::Result<()> {
     match b {
-        b'\r' => escape(b'r'),
-        b'\n' => escape(b'n'),
-        b' '..=b'~' => byte(b),
-        _ => {
-            escape(b'x');
-            io::print_hex(STDOUT_FILENO, wide(b), 2);
-        }
+        b'\r' => escape(rt, b'r'),
+        b'\n' => escape(rt, b'n'),
+        b' '..=b'~' => byte(rt, b),
+        _ => print!(rt; "\\x{b:02x}"),
     }
 }
 
-fn letters(s: &[u8]) {
-    let mut i = 0;
-    while i < s.len() {
-        letter(s[i]);
-        i += 1;
+fn letters(rt: &impl Print, s: &[u8]) -> io::Result<()> {
+    for b in s {
+        letter(rt, *b)?;
     }
+    Ok(())
 }
 
 // A text; of a long one its beginning, its length and its end.
-pub fn shown(s: &[u8]) {
+pub fn shown(rt: &impl Print, s: &[u8]) -> io::Result<()> {
     let n = s.len();
     if n <= 800 {
-        return letters(s);
+        return letters(rt, s);
     }
-    letters(&s[0..60]);
-    byte(b'.');
-    number(n as u64);
-    byte(b' ');
-    byte(b'.');
+    letters(rt, &s[0..60])?;
+    byte(rt, b'.')?;
+    number(rt, n as u64)?;
+    byte(rt, b' ')?;
+    byte(rt, b'.')?;
     let last = n - 60;
-    letters(&s[last..n]);
+    letters(rt, &s[last..n])
 }
 
 // Whether the bytes from a place on are those that every output has at first.
@@ -87,16 +80,16 @@ fn untouched(out: &[u8], from: usize) -> bool {
 }
 
 // The end of an answer: whether the output is untouched from a place on.
-pub fn rest(out: &[u8], from: usize) {
+pub fn rest(rt: &impl Print, out: &[u8], from: usize) -> io::Result<()> {
     if untouched(out, from) {
-        return text(b" untouched");
+        return text(rt, b" untouched");
     }
-    text(b" touched");
+    text(rt, b" touched")
 }
 
 // An output: its first n bytes as a text, and whether it is untouched behind them.
-pub fn output(out: &[u8], n: usize) {
-    byte(b' ');
-    shown(front(out, n));
-    rest(out, n);
+pub fn output(rt: &impl Print, out: &[u8], n: usize) -> io::Result<()> {
+    byte(rt, b' ')?;
+    shown(rt, front(out, n))?;
+    rest(rt, out, n)
 }

@@ -1,15 +1,6 @@
 -- `testing::template::plain` puts what a byte stands for in each turn, if there is room; the bytes left fall.
-use Rattle.testing.proofs.Putting.{nothing, more, same_length}
+use Rattle.testing.proofs.Putting.{more}
 use Rattle.testing.proofs.template.plain.Goals as goal
-
-pub loop-i-init : goal.loop-i-init
-loop-i-init c = nothing
 
 pub loop-i-preserved : goal.loop-i-preserved
 loop-i-preserved c = more c.loop-i.invariant c.next-p.ensures
-
-pub shape_of-out : goal.shape_of-out
-shape_of-out c = same_length c.loop-i.invariant
-
-pub returns : goal.returns
-returns c = c.loop-i.invariant

@@ -1,13 +1,8 @@
 -- `testing::words::key` keeps: the letters so far are the digits of its number.
-use mathlib.Core.Path.{refl}
 use native.Mathlib.Omega.{arith}
-use Rattle.digits.proofs.Readers.{none_passed, one_passed, all_passed, room}
-use Rattle.testing.specs.Words.{few, many}
+use Rattle.digits.proofs.Readers.{none_passed, one_passed, room}
 use Rattle.testing.proofs.Cutting.{letters}
 use Rattle.testing.proofs.words.key.Goals as goal
-
-pub returns-then-word-gt8 : goal.returns-then-word-gt8
-returns-then-word-gt8 c = many (omega arith) refl
 
 pub loop-i-init : goal.loop-i-init
 loop-i-init c = none_passed _ (omega arith)
@@ -20,6 +15,3 @@ overflow_add-k c = omega (arith, (room c.loop-i.invariant letters 7 (omega arith
 
 pub loop-i-preserved : goal.loop-i-preserved
 loop-i-preserved c = one_passed c.loop-i.invariant (omega arith) (record { same = c.wide.ensures.0; small = c.wide.ensures.1 })
-
-pub returns : goal.returns
-returns c = few (omega arith) (all_passed c.loop-i.invariant (omega arith))

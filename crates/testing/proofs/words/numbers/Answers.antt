@@ -1,16 +1,12 @@
 -- `testing::words::numbers` keeps: the numbers so far are those of their words.
 use Prim.Native.Nat.{ℕ, ◌+◌, ◌*◌}
 use mathlib.Core.Path.{ap, ◌∙◌}
-use native.Mathlib.Nat.{zero-mul, add-zero}
 use native.Mathlib.Omega.{arith}
 use borrow.Author.Rules.{rules}
 use lib.ListN.{length-set}
 use Rattle.testing.specs.Words.{skipped, word, ValueOf}
 use Rattle.testing.proofs.Cutting.{skipped_more, found_more, step_on}
 use Rattle.testing.proofs.words.numbers.Goals as goal
-
-pub loop-k-init : goal.loop-k-init
-loop-k-init c = (search rules, search rules, search rules, rw (zero-mul, add-zero) c.skip-at.ensures.1, λ j h. absurd (omega arith))
 
 pub loop-k-preserved : goal.loop-k-preserved
 loop-k-preserved c =

@@ -1,6 +1,5 @@
 -- `testing::words::skip` keeps: so many blanks were passed.
-use mathlib.Core.Path.{◌≡◌, ap, sym, ◌∙◌}
-use native.Mathlib.Omega.{arith}
+use mathlib.Core.Path.{ap, sym, ◌∙◌}
 use borrow.Author.Rules.{rules}
 use Rattle.testing.specs.Words.{behind}
 use Rattle.testing.proofs.Cutting.{none_skipped, one_skipped}
@@ -13,9 +12,3 @@ pub loop-i-preserved : goal.loop-i-preserved
 loop-i-preserved c =
     let l = c.loop-i in
     (search rules, search rules, c.next_word-p.ensures.1 ∙ ap (behind 32) l.invariant.2 ∙ one_skipped _ _)
-
-pub returns : goal.returns
-returns c =
-    let l = c.loop-i in
-    let e : l.i ≡ c.args.words = omega arith in
-    (l.invariant.1, rw e at l.invariant.2)
