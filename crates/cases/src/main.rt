@@ -4,8 +4,8 @@
 
 mod explaining;
 mod inputs;
+mod packing;
 mod reading;
-mod records;
 mod returned;
 mod rows;
 mod strings;
@@ -26,16 +26,23 @@ fn line_space() -> [u8; 10000]
     [0; 10000]
 }
 
+// So many zeros. Proved for any number, since the checker can't count as far as the one below.
+fn zeros<const N: usize>() -> [u8; N]
+    ensures { N ≡ length result }
+{
+    [0; N]
+}
+
 // Room for all of `stdin`.
 fn cases_space() -> [u8; 524288]
     ensures { 524288 ≡ length result }
 {
-    [0; 524288]
+    zeros()
 }
 
 // Tries a case of records, if the word is one.
 fn of_records(rt: &impl Print, word: u64, line: &[u8]) -> io::Result<bool> {
-    if records::tried(rt, word, line)? {
+    if packing::tried(rt, word, line)? {
         return Ok(true);
     }
     if rows::tried(rt, word, line)? {

@@ -1,5 +1,5 @@
 // Cases of reading: a text as a trace, a line as a row.
-use crate::records::fields;
+use crate::packing::fields;
 use crate::writing::{exported, page, written};
 use row_reader::Reading;
 use std::io;

@@ -4,7 +4,7 @@ ghost use Rattle.fields.specs.Columns.{last_number};
 ghost use Rattle.record.specs.Record.{WellFormed};
 ghost use Rattle.row.specs.Versions.{Carries};
 
-use crate::records::record_of;
+use crate::packing::record_of;
 use digits::{Letters, put_decimal};
 use record::Record;
 use row::carries;

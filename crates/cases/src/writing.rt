@@ -1,8 +1,8 @@
 // Cases of writing and exporting records.
 ghost use Rattle.std.specs.Prelude.{◌≡◌, length};
 
+use crate::packing::{records_of, refused};
 use crate::reading::read;
-use crate::records::{records_of, refused};
 use crate::returned::read_lines;
 use ascii::Exported;
 use std::io;

@@ -3,7 +3,9 @@ use Rattle.convert.proofs.Answers.{paged, untouched, enough}
 use Rattle.bushingowl.proofs.paged.Goals as goal
 
 pub returns-in-Page : goal.returns-in-Page
-returns-in-Page c = paged (rw c.in-Page.is at c.convert-r.ensures)
+returns-in-Page c =
+    let p = paged (rw c.in-Page.is at c.convert-r.ensures) in
+    record { upper_bound = p.0; prints = p.1 }
 
 pub returns-in-Short : goal.returns-in-Short
 returns-in-Short c =
