@@ -21,7 +21,7 @@ use record::{Record, packed_at};
 use records::{Entry, record_at, whole};
 
 // The answer of `export`.
-#[derive(Drop)]
+#[derive(Clone, Copy)]
 pub enum Exported {
     Done {
         bytes: usize,
@@ -35,7 +35,7 @@ pub enum Exported {
 }
 
 // How many bytes and lines there are, and how many records are left out; or the first malformed record.
-#[derive(Drop)]
+#[derive(Clone, Copy)]
 pub enum Measured {
     Good {
         bytes: usize,

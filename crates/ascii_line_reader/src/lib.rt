@@ -14,7 +14,7 @@ use fields::WINDOW;
 use record::Record;
 
 // What stands behind a stamp: the place of the line's end, or 0 if it is no frame; and the record, without an offset.
-#[derive(Drop)]
+#[derive(Clone, Copy)]
 pub struct FrameRead {
     pub end: usize,
     pub r: Record,
@@ -22,7 +22,7 @@ pub struct FrameRead {
 
 // A whole line: the place of its end, or 0 if it is no such line; the steps of 100 microseconds from the beginning of day 0 to its stamp; and its record, without
 // an offset.
-#[derive(Drop)]
+#[derive(Clone, Copy)]
 pub struct LineRead {
     pub end: usize,
     pub ticks: u64,

@@ -24,14 +24,14 @@ use row_reader::no_window;
 use trace::SIZE_LIMIT;
 
 // The answer of `read_ascii`.
-#[derive(Drop)]
+#[derive(Clone, Copy)]
 pub enum AsciiRead {
     Done { start: u64, records: u64 },
     Refused { number: u64, place: u64 },
 }
 
 // The whole text: its start and how many lines it has; or a refusal.
-#[derive(Drop)]
+#[derive(Clone, Copy)]
 pub enum Judged {
     Good { start: u64, lines: u64 },
     Bad { number: u64, place: u64 },

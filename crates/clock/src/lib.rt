@@ -22,7 +22,7 @@ pub const LAST_DAY: u64 = 99_999;
 pub const NO_DAY: u64 = 100_000;
 
 // A day of the Gregorian calendar: day and month count from 1.
-#[derive(Drop)]
+#[derive(Clone, Copy)]
 pub struct CalendarDay {
     pub day: u64,
     pub month: u64,
@@ -30,7 +30,7 @@ pub struct CalendarDay {
 }
 
 // Whole days since day 0 began, and the time of the day; a part is 100 microseconds.
-#[derive(Drop)]
+#[derive(Clone, Copy)]
 pub struct DayTime {
     pub days: u64,
     pub hour: u64,
@@ -39,21 +39,21 @@ pub struct DayTime {
     pub part: u64,
 }
 
-#[derive(Drop)]
+#[derive(Clone, Copy)]
 pub struct DateTime {
     pub date: CalendarDay,
     pub time: DayTime,
 }
 
 // A year and a day of it, counted from 0.
-#[derive(Drop)]
+#[derive(Clone, Copy)]
 struct YearDay {
     year: u64,
     day: u64,
 }
 
 // A month and a day of it, both counted from 0.
-#[derive(Drop)]
+#[derive(Clone, Copy)]
 struct MonthDay {
     month: u64,
     day: u64,

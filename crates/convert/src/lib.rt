@@ -17,7 +17,7 @@ pub const INPUT_LIMIT: usize = 65_536;
 const BENCH_CHANNEL: u64 = 1;
 
 // How many bytes of the page are to be printed; or what was lent is too short, which is no refusal of the input.
-#[derive(Drop)]
+#[derive(Clone, Copy)]
 pub enum Printed {
     Page(usize),
     Short,

@@ -16,7 +16,7 @@ ghost use Rattle.digits.specs.inner.Kept.{Kept};
 use base::{put_text, put_three, wide};
 pub use hex::{hex_digit, hex_table};
 
-#[derive(Drop)]
+#[derive(Clone, Copy)]
 pub enum Number {
     Value(u64),
     Not,

@@ -32,7 +32,7 @@ const LONGEST: usize = OFFSET_DIGITS + 4;
 const WORD: usize = LONGEST + 1;
 
 // What is wrong with a line.
-#[derive(Drop)]
+#[derive(Clone, Copy)]
 pub enum Explained {
     // This field.
     Wrong(u64),

@@ -23,7 +23,7 @@ pub const WINDOW: usize = 4096;
 pub const LAST_NUMBER: u64 = 999999;
 
 // What was read at a place: the place behind it, or 0, and its number.
-#[derive(Drop)]
+#[derive(Clone, Copy)]
 pub struct Scan {
     pub end: usize,
     pub value: u64,

@@ -16,21 +16,21 @@ use row::is_version;
 pub const LINE_LIMIT: usize = 250;
 
 // Where a line ends: at its CR, which LF follows; or nowhere.
-#[derive(Drop)]
+#[derive(Clone, Copy)]
 pub enum Ending {
     At(usize),
     Open,
 }
 
 // A start in milliseconds, or not a start line.
-#[derive(Drop)]
+#[derive(Clone, Copy)]
 pub enum StartTime {
     Ms(u64),
     Not,
 }
 
 // What a line that may be a comment is.
-#[derive(Drop)]
+#[derive(Clone, Copy)]
 pub enum Remark {
     Plain,
     Dollar,

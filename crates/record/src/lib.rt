@@ -27,7 +27,7 @@ pub struct Record {
 }
 
 // What `pack` answers: packed, a record that is not well formed, an output of less than twenty bytes.
-#[derive(Drop)]
+#[derive(Clone, Copy)]
 pub enum Packed {
     Done,
     Malformed,
@@ -35,7 +35,7 @@ pub enum Packed {
 }
 
 // What `unpack` answers: the record and its mark, not twenty bytes, no packed record.
-#[derive(Drop)]
+#[derive(Clone, Copy)]
 pub enum Unpacked {
     Fields { r: Record, mark: u64 },
     NotTwenty,

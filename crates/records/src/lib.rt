@@ -13,7 +13,7 @@ use record::{Record, Unpacked, unpack};
 pub const PACKED_LIMIT: usize = 19_999_980;
 
 // What twenty bytes in a list are: a well-formed record with a true mark, or none.
-#[derive(Drop)]
+#[derive(Clone, Copy)]
 pub enum Entry {
     Is(Record),
     Not,

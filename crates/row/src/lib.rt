@@ -39,7 +39,7 @@ pub enum Stage {
 }
 
 // What is known after some fields: the record so far, and of the bytes that are left their number and the place value of the first.
-#[derive(Drop)]
+#[derive(Clone, Copy)]
 pub struct Part {
     pub stage: Stage,
     pub left: u64,
@@ -48,7 +48,7 @@ pub struct Part {
 }
 
 // The place behind a field, and what is known then; place 0 if no row goes on with the field.
-#[derive(Drop)]
+#[derive(Clone, Copy)]
 pub struct Step {
     pub at: usize,
     pub part: Part,

@@ -21,7 +21,7 @@ use lines::LINE_LIMIT;
 use record::{Record, of_fields};
 
 // A record, or not a row.
-#[derive(Drop)]
+#[derive(Clone, Copy)]
 pub enum Reading {
     Is(Record),
     Not,

@@ -24,7 +24,7 @@ const FEED: usize = LINE_LIMIT + 1;
 pub const ENDED: usize = LINE_LIMIT + 2;
 
 // The answer of `read`.
-#[derive(Drop)]
+#[derive(Clone, Copy)]
 pub enum Outcome {
     Done {
         version: u64,
@@ -40,21 +40,21 @@ pub enum Outcome {
 }
 
 // What a line from line 3 on that is no row is: a comment, with the place of the next line, or refused with a number.
-#[derive(Drop)]
+#[derive(Clone, Copy)]
 pub enum Other {
     Note(usize),
     Bad(u64),
 }
 
 // The first two lines: version, start, and where line 3 starts; or a refusal.
-#[derive(Drop)]
+#[derive(Clone, Copy)]
 pub enum Heading {
     Body { version: u64, start: u64, at: usize },
     Bad { number: u64, place: u64 },
 }
 
 // The whole text: how many rows, and the number of the first, or 0 if there is none; or a refusal.
-#[derive(Drop)]
+#[derive(Clone, Copy)]
 pub enum Judged {
     Good { rows: u64, first: u64 },
     Bad { number: u64, place: u64 },

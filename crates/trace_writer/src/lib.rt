@@ -25,14 +25,14 @@ use row::{carries, is_version};
 use row_writer::{put_row, row_length};
 
 // The answer of `write`.
-#[derive(Drop)]
+#[derive(Clone, Copy)]
 pub enum Written {
     Done { bytes: usize },
     Refused { number: u64, place: u64 },
 }
 
 // How many bytes the rows are; or a refusal.
-#[derive(Drop)]
+#[derive(Clone, Copy)]
 pub enum Size {
     Bytes(usize),
     Bad { number: u64, place: u64 },
