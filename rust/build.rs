@@ -46,12 +46,22 @@ fn link(folder: &Path) {
             "library",
             "../tools/archive",
             "../tools/module",
-            "../crates",
             "../crates.txt",
         ] {
             println!("cargo:rerun-if-changed={made_of}");
         }
+        for part in written_parts() {
+            println!("cargo:rerun-if-changed={}", part.display());
+        }
     }
+}
+
+/// The folders of the crates that are written by hand. Beside them stands what the check keeps.
+fn written_parts() -> Vec<PathBuf> {
+    let crates = fs::read_dir("../crates").expect("the folder of the crates can be read");
+    let folders = crates.map(|found| found.expect("the folder of the crates can be read").path());
+    let parts = folders.flat_map(|folder| ["src", "specs", "proofs"].map(|part| folder.join(part)));
+    parts.filter(|part| part.is_dir()).collect()
 }
 
 fn archive() -> PathBuf {
