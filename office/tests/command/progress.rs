@@ -11,8 +11,8 @@ fn week() -> Scratch {
     scratch
 }
 
-/// A trace that comes only after a second: a run with it shows how far it has come.
-const SLOW: &str = "mkfifo slow.trc; { sleep 1; cat week/0.trc >slow.trc; } & ";
+/// A trace that comes only after three seconds: a run with it shows how far it has come.
+const SLOW: &str = "mkfifo slow.trc; { sleep 3; cat week/0.trc >slow.trc; } & ";
 
 /// Runs a line of the shell on a terminal, and gives what was printed there. Nothing where there is no `script`.
 fn on_a_terminal(scratch: &Scratch, line: &str) -> Option<Ran> {
