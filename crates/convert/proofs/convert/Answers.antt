@@ -19,23 +19,22 @@ slice_bounds-export-end c = let p = rw c.in-Done.is at c.read-a.ensures in omega
 pub returns-then-number-eq8 : goal.returns-then-number-eq8
 returns-then-number-eq8 c =
     let p = rw c.in-Refused.is at c.read-a.ensures in
-    short (unheld c.if-input-gt-INPUT_LIMIT.false p c.if-number-eq8.true) refl refl
+    short (unheld (omega arith) p (omega arith)) refl refl
 
 pub returns-in-Done-e : goal.returns-in-Done-e
 returns-in-Done-e c =
     let p = rw c.in-Done.is at c.read-a.ensures in
     let q = rw (c.in-Done-e.is, sub-zero) at c.export-e.ensures.export_promise in
-    exported_all c.if-input-gt-INPUT_LIMIT.false p q
+    exported_all (omega arith) p q
 
 pub returns-in-Refused-e : goal.returns-in-Refused-e
 returns-in-Refused-e c =
     let p = rw c.in-Done.is at c.read-a.ensures in
     let q = rw (c.in-Refused-e.is, sub-zero) at c.export-e.ensures.export_promise in
     let k = rw c.in-Refused-e.is at c.export-e.ensures.numbered in
-    unwritten c.if-input-gt-INPUT_LIMIT.false p k q
+    unwritten (omega arith) p k q
 
 pub returns-else-number-eq8 : goal.returns-else-number-eq8
 returns-else-number-eq8 c =
     let p = rw c.in-Refused.is at c.read-a.ensures in
-    let h = c.if-input-gt-INPUT_LIMIT.false in
-    refused_input h (unread h p c.if-number-eq8.false) c.put_refusal-in-Refused.ensures
+    refused_input (omega arith) (unread (omega arith) p (λ z. omega arith)) c.put_refusal-in-Refused.ensures
