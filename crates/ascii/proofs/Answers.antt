@@ -11,9 +11,12 @@ use Rattle.clock.specs.Start.{start_limit}
 use Rattle.record.specs.declared.Record.{Record}
 use Rattle.records.specs.Records.{Whole, PacksAll, FirstMalformed}
 use Rattle.records.proofs.Records.{packs_all_one, malformed_one, none_malformed}
+use Rattle.std.specs.Prelude.{Result, Ok, Err}
+use Rattle.base.specs.declared.refusal.Refused.{Refused}
+use Rattle.base.specs.Refusal.{number_of}
+use Rattle.record.proofs.Refusals.{some_number, same_refused}
 use Rattle.ascii.specs.declared.Exported.{Exported}
-use Rattle.ascii.specs.declared.Exported.TheVariants as exported
-use Rattle.ascii.specs.Promise.{export_numbers, Numbered, is_refused, line_count, left_count, ExportStopped, no_records, late, no_channel, malformed, Given, ExportPromise, refused, no_room, done}
+use Rattle.ascii.specs.Promise.{export_done, export_refused, export_numbers, Numbered, is_done, is_refused, line_count, left_count, ExportStopped, no_records, late, no_channel, malformed, Given, ExportPromise, refused, no_room, done}
 use Rattle.ascii.proofs.Exporting.{exports_one}
 
 -- Refusals 20, 22, 35 and 23 have one number at one place.
@@ -91,22 +94,36 @@ one_export {before = before} (done f k e q) (done g l d r) =
     let z = given_one f g in
     (e ∙ cc (z.0, z.1) ∙ sym d, q ∙ ap (λ (t : List ℕ). t ++ drop (length t) before) z.1 ∙ sym r)
 
+-- An answer with a number other than 0 is a refusal: no reason has the number 0.
+pub numbered : (a : Result Exported Refused) → Numbered a
+numbered (Ok e) = is_done
+numbered (Err e) = let f = some_number e.reason in is_refused {e = e} (omega arith)
+
 -- The answer itself is the only one: an export of nothing and a refusal are told apart by `Numbered`.
-pub same_exported : {start channel : ℕ} {s before x y : List ℕ} (a b : Exported) → Numbered a → Numbered b
+pub same_exported : {start channel : ℕ} {s before x y : List ℕ} (a b : Result Exported Refused) → Numbered a → Numbered b
     → ExportPromise start channel s before (export_numbers a) x → ExportPromise start channel s before (export_numbers b) y → (a ≡ b) × (x ≡ y)
-same_exported (exported.Done n l k) (exported.Done m i j) f g p q = let z = one_export p q in (cc z.0, z.1)
-same_exported (exported.Done n l k) (exported.Refused m o) f (is_refused h) p q = let z : 0 ≡ m = cc (one_export p q).0 in absurd (omega arith)
-same_exported (exported.Refused n o) (exported.Done m i j) (is_refused h) g p q = let z : n ≡ 0 = cc (one_export p q).0 in absurd (omega arith)
-same_exported (exported.Refused n o) (exported.Refused m r) f g p q = let z = one_export p q in (cc z.0, z.1)
+same_exported (Ok e) (Ok d) f g p q =
+    let z = one_export p q in
+    let n : e.bytes ≡ d.bytes = cc z.0 in
+    let l : e.lines ≡ d.lines = cc z.0 in
+    let k : e.left_out ≡ d.left_out = cc z.0 in
+    (λ i. Ok record { bytes = n i; lines = l i; left_out = k i }, z.1)
+same_exported (Ok e) (Err d) f (is_refused h) p q = let z : 0 ≡ number_of d.reason = cc (one_export p q).0 in absurd (omega arith)
+same_exported (Err e) (Ok d) (is_refused h) g p q = let z : number_of e.reason ≡ 0 = cc (one_export p q).0 in absurd (omega arith)
+same_exported (Err e) (Err d) f g p q =
+    let z = one_export p q in
+    let n : number_of e.reason ≡ number_of d.reason = cc z.0 in
+    let l : e.place ≡ d.place = cc z.0 in
+    (ap (λ (r : Refused). Err r) (same_refused n l), z.1)
 
 -- What can be exported is, where there is room.
 pub exports : {start channel : ℕ} {s text before a x : List ℕ} {rs : List Record} → Given start channel s rs text → length text ≤ length before
     → ExportPromise start channel s before a x
-    → (a ≡ export_numbers (exported.Done (length text) (line_count rs) (left_count rs))) × (x ≡ text ++ drop (length text) before)
+    → (a ≡ export_done (length text) (line_count rs) (left_count rs)) × (x ≡ text ++ drop (length text) before)
 exports g l p = one_export p (done g l refl refl)
 
 -- With a refusal the output is what it was.
-pub untouched : {start channel number p : ℕ} {s before x : List ℕ} → number ≢ 0 → ExportPromise start channel s before (export_numbers (exported.Refused number p)) x
+pub untouched : {start channel number p : ℕ} {s before x : List ℕ} → number ≢ 0 → ExportPromise start channel s before (export_refused number p) x
     → x ≡ before
 untouched f (refused g e q) = q
 untouched f (no_room g l e q) = q
@@ -135,6 +152,6 @@ accepted_text {n = n} {before = before} x =
     rw (x.output, i) (take_at t (drop (length t) before) (length t) refl)
 
 -- Each record is counted once: invented counts break the promise.
-pub counted : {start channel bytes lines others : ℕ} {s before x : List ℕ} → ExportPromise start channel s before (export_numbers (exported.Done bytes lines others)) x
+pub counted : {start channel bytes lines others : ℕ} {s before x : List ℕ} → ExportPromise start channel s before (export_done bytes lines others) x
     → (rs : List Record) × PacksAll rs s × (lines ≡ line_count rs) × (others ≡ left_count rs)
 counted p = let x = accepted p in (x.records, x.given.packs, cc x.numbers, cc x.numbers)

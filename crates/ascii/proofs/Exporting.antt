@@ -1,6 +1,6 @@
 -- Laws on the exported lines, and on the counts of records.
 use Prim.Native.Nat.{ℕ, ◌+◌, ◌*◌, ◌≤◌, ◌<◌}
-use mathlib.Core.Path.{◌≡◌, refl, ap, ap₂, ◌∙◌}
+use mathlib.Core.Path.{◌≡◌, refl, ap, ap₂}
 use mathlib.Core.List.{List, [], ◌∷◌, ◌++◌, append_assoc, append-nil}
 use native.Mathlib.Decide.{dec_lt, ℕ_discrete}
 use native.Mathlib.Omega.{arith}
@@ -60,12 +60,6 @@ frame_line r k = rw (le-ltb 1 r.kind k)
 pub frame_left : (r : Record) → 1 < r.kind → is_frame r ≡ 0
 unfolding is_frame
 frame_left r k = rw (lt-ltb 1 r.kind k)
-
-pub is_left : {n : ℕ} (r : Record) → n ≡ is_frame r → n ≡ 0 → 1 < r.kind
-is_left r e z = elim (dec_lt 1 r.kind) [ yes p ↦ p | no q ↦ absurd (omega (arith, frame_line r (omega arith))) ]
-
-pub is_line : {n : ℕ} (r : Record) → n ≡ is_frame r → (n ≡ 0 → ⊥) → r.kind ≤ 1
-is_line r e f = elim (dec_lt 1 r.kind) [ yes p ↦ absurd (f (e ∙ frame_left r p)) | no q ↦ omega arith ]
 
 pub count_none : line_count [] ≡ 0
 unfolding line_count

@@ -1,5 +1,5 @@
 -- What `export` promises for every start, channel, bytes of records and output. In words: docs/FORMAT.md, sections 10 and 11.
-use Rattle.std.specs.Prelude.{ℕ, ◌+◌, ◌-◌, ◌≤◌, ◌<◌, ◌≡◌, cond, List, [], ◌∷◌, ◌++◌, eqb, ltb, length, drop}
+use Rattle.std.specs.Prelude.{Result, Ok, Err, ℕ, ◌+◌, ◌-◌, ◌≤◌, ◌<◌, ◌≡◌, cond, List, [], ◌∷◌, ◌++◌, eqb, ltb, length, drop}
 use Rattle.base.specs.Limits.{last_bus}
 use Rattle.clock.specs.declared.DateTime.{DateTime}
 use Rattle.clock.specs.Start.{start_limit}
@@ -8,17 +8,24 @@ use Rattle.record.specs.declared.Record.{Record}
 use Rattle.records.specs.Records.{Whole, PacksAll, FirstMalformed}
 use Rattle.ascii_line.specs.Line.{line_text}
 use Rattle.ascii.specs.declared.Exported.{Exported}
-use Rattle.ascii.specs.declared.Exported.TheVariants as exported
+use Rattle.base.specs.declared.refusal.Refused.{Refused}
+use Rattle.base.specs.Refusal.{number_of}
 
 -- Number, place, bytes written, lines and records left out for each answer.
-abbrev pub export_numbers : Exported → List ℕ
-export_numbers (exported.Done bytes lines left) = 0 ∷ 0 ∷ bytes ∷ lines ∷ left ∷ []
-export_numbers (exported.Refused n p) = n ∷ p ∷ 0 ∷ 0 ∷ 0 ∷ []
+abbrev pub export_done : ℕ → ℕ → ℕ → List ℕ
+export_done bytes lines left = 0 ∷ 0 ∷ bytes ∷ lines ∷ left ∷ []
+
+abbrev pub export_refused : ℕ → ℕ → List ℕ
+export_refused number place = number ∷ place ∷ 0 ∷ 0 ∷ 0 ∷ []
+
+abbrev pub export_numbers : Result Exported Refused → List ℕ
+export_numbers (Ok e) = export_done e.bytes e.lines e.left_out
+export_numbers (Err e) = export_refused (number_of e.reason) e.place
 
 -- An answer that is a refusal has a number other than 0: an export of nothing is no refusal.
-pub data Numbered : Exported → Type 0 where
-  is_done : {bytes lines left : ℕ} → Numbered (exported.Done bytes lines left)
-  is_refused : {n p : ℕ} → 0 < n → Numbered (exported.Refused n p)
+pub data Numbered : Result Exported Refused → Type 0 where
+  is_done : {e : Exported} → Numbered (Ok e)
+  is_refused : {e : Refused} → 0 < number_of e.reason → Numbered (Err e)
 
 -- Bus 0 is written as the channel that the caller gives, every other bus as the channel of its number.
 unfoldable pub channel_of : ℕ → ℕ → ℕ
@@ -68,12 +75,12 @@ pub record Given (start channel : ℕ) (s : List ℕ) (rs : List Record) (text :
 -- `export` of a start and the bytes s, with this channel for bus 0, into an output that held `before` and then holds `after`, gives the numbers a.
 pub data ExportPromise (start channel : ℕ) (s before a after : List ℕ) : Type 0 where
   -- 20, 22, 35 or 23
-  refused : {n p : ℕ} → ExportStopped start channel s n p → a ≡ export_numbers (exported.Refused n p) → after ≡ before
+  refused : {n p : ℕ} → ExportStopped start channel s n p → a ≡ export_refused n p → after ≡ before
       → ExportPromise start channel s before a after
   -- everything good, and the output too short
   no_room : {rs : List Record} {text : List ℕ} → Given start channel s rs text → length before < length text
-      → a ≡ export_numbers (exported.Refused 25 0) → after ≡ before → ExportPromise start channel s before a after
+      → a ≡ export_refused 25 0 → after ≡ before → ExportPromise start channel s before a after
   -- the lines, and behind them what was there
   done : {rs : List Record} {text : List ℕ} → Given start channel s rs text → length text ≤ length before
-      → a ≡ export_numbers (exported.Done (length text) (line_count rs) (left_count rs)) → after ≡ text ++ drop (length text) before
+      → a ≡ export_done (length text) (line_count rs) (left_count rs) → after ≡ text ++ drop (length text) before
       → ExportPromise start channel s before a after

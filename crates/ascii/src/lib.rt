@@ -3,58 +3,28 @@
 
 ghost use Rattle.std.specs.Prelude.{◌≡◌, ◌+◌, ◌/◌, ◌≤◌, length};
 ghost use Rattle.base.specs.Limits.{offset_limit, last_bus};
-ghost use Rattle.digits.specs.inner.Pairs.{PairsOf};
 ghost use Rattle.clock.specs.Start.{start_limit};
 ghost use Rattle.clock.specs.declared.DateTime.{DateTime as AnyStamp};
 ghost use Rattle.digits.specs.declared.Letters.TheVariants.{Small};
 ghost use Rattle.record.specs.Record.{WellFormed};
 ghost use Rattle.records.specs.Records.{Whole};
 ghost use Rattle.ascii_line.specs.inner.Parts.{StampParts};
-ghost use Rattle.ascii.specs.Promise.{channel_of, line_of, is_frame, export_numbers, Numbered, ExportPromise};
+ghost use Rattle.ascii.specs.Promise.{channel_of, line_of, export_numbers, Numbered, ExportPromise};
 ghost use Rattle.ascii.specs.inner.Passes.{ticks_of, Shows, LineBytes, LinePut, MeasuresLines, LinesFit, LinesPut};
 
 use ascii_line::{line_length, put_line, put_second};
-use base::LAST_BUS;
+use base::{LAST_BUS, Refusal, Refused};
 use clock::{START_LIMIT, stamp_of};
-use digits::{Letters, pairs};
+use digits::{Letters, Pairs};
 use record::{Record, packed_at};
-use records::{Entry, record_at, whole};
+use records::{record_at, whole};
 
-// The answer of `export`.
-#[derive(Clone, Copy)]
-pub enum Exported {
-    Done {
-        bytes: usize,
-        lines: u64,
-        left_out: u64,
-    },
-    Refused {
-        number: u64,
-        place: u64,
-    },
-}
-
-// How many bytes and lines there are, and how many records are left out; or the first malformed record.
-#[derive(Clone, Copy)]
-pub enum Measured {
-    Good {
-        bytes: usize,
-        lines: u64,
-        left_out: u64,
-    },
-    Bad {
-        place: u64,
-    },
-}
-
-// 1 for a record that gives a line, else 0.
-fn frame(r: Record) -> u64
-    ensures { (result ≡ is_frame r) × (result ≤ 1) }
-{
-    if 1 < r.kind {
-        return 0;
-    }
-    1
+// What was exported: how many bytes and lines, and how many records gave none.
+#[derive(Clone, Copy, PartialEq, Eq)]
+pub struct Exported {
+    pub bytes: usize,
+    pub lines: u64,
+    pub left_out: u64,
 }
 
 // Bus 0 is written as the channel that is given for it, every other bus as the channel of its number.
@@ -67,43 +37,45 @@ fn channel_of(channel: u64, bus: u64) -> u64
     bus
 }
 
-// How many bytes the line of a record is, or 0 if it is left out.
-fn line_bytes(channel: u64, r: Record) -> usize
+// How many bytes the line of a record is, if it gives one.
+fn line_bytes(channel: u64, r: Record) -> Option<usize>
     requires { WellFormed r × (channel ≤ last_bus) }
-    ensures { LineBytes channel r result × (result ≤ 86) }
+    ensures { LineBytes channel r result }
 {
-    if frame(r) == 0 {
-        return 0;
+    if r.kind <= 1 {
+        Some(line_length(channel_of(channel, r.bus), r))
+    } else {
+        None
     }
-    line_length(channel_of(channel, r.bus), r)
 }
 
 // The first pass: every record and its mark is judged, and the lines are measured and counted. `last` is the offset of the record before.
-fn measure_lines(channel: u64, records: &[u8]) -> Measured
+fn measure_lines(channel: u64, records: &[u8]) -> Result<Exported, Refused>
     requires { Whole records.now × (channel ≤ last_bus) }
     ensures { MeasuresLines channel records.now result }
 {
-    let mut at: usize = 0;
-    let mut k: u64 = 0;
     let mut bytes: usize = 0;
     let mut lines: u64 = 0;
+    let mut left_out: u64 = 0;
     let mut last: u64 = 0;
-    while at < records.len() {
-        k += 1;
-        let e = record_at(records, at, last);
-        let Entry::Is(r) = e else {
-            return Measured::Bad { place: k };
+    for i in 0..records.len() / 20 {
+        let Some(r) = record_at(records, 20 * i, last) else {
+            return Err(Refusal::Malformed.at(i as u64 + 1));
         };
         last = r.offset;
-        bytes += line_bytes(channel, r);
-        lines += frame(r);
-        at += 20;
+        match line_bytes(channel, r) {
+            Some(n) => {
+                bytes += n;
+                lines += 1;
+            }
+            None => left_out += 1,
+        }
     }
-    Measured::Good {
+    Ok(Exported {
         bytes,
         lines,
-        left_out: k - lines,
-    }
+        left_out,
+    })
 }
 
 // How many times 100 microseconds from the beginning of day 0 a start and an offset are.
@@ -141,13 +113,12 @@ fn put_export(
     part: u64,
     channel: u64,
     r: Record,
-    pairs: &[u8; 512],
+    pairs: &Pairs,
 ) -> usize
-    requires { WellFormed r × ((s : AnyStamp) × (r.kind ≤ 1 → at + length (line_of channel s r) ≤ length out.old)) × PairsOf Small pairs.now }
+    requires { WellFormed r × ((s : AnyStamp) × (r.kind ≤ 1 → at + length (line_of channel s r) ≤ length out.old)) × (pairs.now.letters ≡ Small) }
     ensures { (s : AnyStamp) → StampParts second.now part s → LinePut channel out.old out.new at result s r }
 {
-    let given = frame(r);
-    if given == 0 {
+    if 1 < r.kind {
         return at;
     }
     put_line(out, at, second, part, channel_of(channel, r.bus), r, pairs)
@@ -159,75 +130,48 @@ fn put_lines(start: u64, channel: u64, records: &[u8], out: &mut [u8])
     requires { LinesFit start channel records.now out.old × (start ≤ start_limit) }
     ensures { LinesPut start channel records.now out.old out.new }
 {
-    let mut at = 0;
     let mut p = 0;
     let mut last = start / 1000;
     let mut head = [0u8; 20];
     show(&mut head, start, 0);
-    let pairs = pairs(Letters::Small);
-    while at < records.len() {
-        let r = packed_at(records, at);
+    let pairs = Pairs::new(Letters::Small);
+    for i in 0..records.len() / 20 {
+        let r = packed_at(records, 20 * i);
         let ticks = ticks_of(start, r.offset);
         let second = ticks / 10000;
         renew_second(&mut head, last, second, start, r.offset);
         last = second;
         p = put_export(out, p, &head, ticks % 10000, channel, r, &pairs);
-        at += 20;
     }
 }
 
 // Both passes, where all but the records and the room is judged.
-fn put_all(start: u64, channel: u64, records: &[u8], out: &mut [u8]) -> Exported
+fn put_all(start: u64, channel: u64, records: &[u8], out: &mut [u8]) -> Result<Exported, Refused>
     requires { Whole records.now × (start ≤ start_limit) × (channel ≤ last_bus) }
     ensures export_promise { ExportPromise start channel records.now out.old (export_numbers result) out.new }
     ensures numbered { Numbered result }
 {
-    let m = measure_lines(channel, records);
-    match m {
-        Measured::Good {
-            bytes,
-            lines,
-            left_out,
-        } => {
-            if out.len() < bytes {
-                return Exported::Refused {
-                    number: 25,
-                    place: 0,
-                };
-            }
-            put_lines(start, channel, records, out);
-            Exported::Done {
-                bytes,
-                lines,
-                left_out,
-            }
-        }
-        Measured::Bad { place } => Exported::Refused { number: 23, place },
+    let measured = measure_lines(channel, records)?;
+    if out.len() < measured.bytes {
+        return Err(Refusal::NoRoom.whole());
     }
+    put_lines(start, channel, records, out);
+    Ok(measured)
 }
 
 // Exports packed records as lines of Telemotive ASCII, bus 0 as this channel.
-pub fn export(start: u64, channel: u64, records: &[u8], out: &mut [u8]) -> Exported
+pub fn export(start: u64, channel: u64, records: &[u8], out: &mut [u8]) -> Result<Exported, Refused>
     ensures export_promise { ExportPromise start channel records.now out.old (export_numbers result) out.new }
     ensures numbered { Numbered result }
 {
     if !whole(records) {
-        return Exported::Refused {
-            number: 20,
-            place: 0,
-        };
+        return Err(Refusal::NotRecords.whole());
     }
     if START_LIMIT < start {
-        return Exported::Refused {
-            number: 22,
-            place: 0,
-        };
+        return Err(Refusal::LateStart.whole());
     }
     if LAST_BUS < channel {
-        return Exported::Refused {
-            number: 35,
-            place: 0,
-        };
+        return Err(Refusal::UnknownChannel.whole());
     }
     put_all(start, channel, records, out)
 }

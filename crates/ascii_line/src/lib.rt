@@ -2,7 +2,6 @@
 #![tactic(auto)]
 
 ghost use Rattle.std.specs.Prelude.{◌≡◌, ◌∷◌, ◌+◌, ◌≤◌, length};
-ghost use Rattle.digits.specs.inner.Pairs.{PairsOf};
 ghost use Rattle.base.specs.Limits.{last_bus};
 ghost use Rattle.base.specs.Text.{blank};
 ghost use Rattle.base.specs.inner.Wrote.{Wrote};
@@ -13,10 +12,10 @@ ghost use Rattle.ascii_line.specs.inner.Parts.{two_text, clock_text, second_text
 
 use base::{put_byte, put_end, put_text};
 use clock::{CalendarDay, DateTime, DayTime};
-use digits::{Letters, decimal_length, put_decimal, put_hex, put_padded, put_pairs};
+use digits::{Letters, Pairs, decimal_length, put_decimal, put_hex, put_padded};
 use record::Record;
 
-// Two numbers of two digits, with this byte behind each.
+// Two numbers of two digits, with this byte after each.
 fn put_two(out: &mut [u8], at: usize, m: u64, n: u64, b: u8) -> usize
     requires { at + 6 ≤ length out.old }
     ensures wrote { Wrote out.old out.new at result (two_text m n b) }
@@ -83,7 +82,7 @@ fn put_bar(out: &mut [u8], at: usize, extended: u64) -> usize
     put_text(out, at, b" | ")
 }
 
-// The bar, `EXTENDED` for an extended ID, and `Rx` or `Tx`. `T` is two behind `R`: the byte is computed, since a branch on the kind
+// The bar, `EXTENDED` for an extended ID, and `Rx` or `Tx`. `T` is two after `R`: the byte is computed, since a branch on the kind
 // would often be guessed wrong.
 fn put_way(out: &mut [u8], at: usize, extended: u64, kind: u64) -> usize
     requires { (kind ≤ 1) × (at + length (way_text extended kind) ≤ length out.old) }
@@ -104,18 +103,18 @@ fn put_line_id(out: &mut [u8], at: usize, r: Record) -> usize
 }
 
 // Length and bytes.
-fn put_line_data(out: &mut [u8], at: usize, r: Record, pairs: &[u8; 512]) -> usize
-    requires { (r.len ≤ 8) × (at + length (data_text r) ≤ length out.old) × PairsOf Small pairs.now }
+fn put_line_data(out: &mut [u8], at: usize, r: Record, pairs: &Pairs) -> usize
+    requires { (r.len ≤ 8) × (at + length (data_text r) ≤ length out.old) × (pairs.now.letters ≡ Small) }
     ensures { Wrote out.old out.new at result (data_text r) }
 {
     let p = put_byte(out, at, b' ');
     let q = put_byte(out, p, b'0' + r.len as u8);
-    put_pairs(out, q, r.len, r.data, pairs)
+    pairs.put(out, q, r.len, r.data)
 }
 
 // ID, length and bytes, and CR LF.
-fn put_rest(out: &mut [u8], at: usize, r: Record, pairs: &[u8; 512]) -> usize
-    requires { (r.extended ≤ 1) × (r.len ≤ 8) × (at + length (rest_text r) ≤ length out.old) × PairsOf Small pairs.now }
+fn put_rest(out: &mut [u8], at: usize, r: Record, pairs: &Pairs) -> usize
+    requires { (r.extended ≤ 1) × (r.len ≤ 8) × (at + length (rest_text r) ≤ length out.old) × (pairs.now.letters ≡ Small) }
     ensures { Wrote out.old out.new at result (rest_text r) }
 {
     let p = put_line_id(out, at, r);
@@ -123,9 +122,9 @@ fn put_rest(out: &mut [u8], at: usize, r: Record, pairs: &[u8; 512]) -> usize
     put_end(out, q)
 }
 
-// What stands behind the stamp, and CR LF.
-fn put_line_frame(out: &mut [u8], at: usize, channel: u64, r: Record, pairs: &[u8; 512]) -> usize
-    requires { (r.extended ≤ 1) × (r.kind ≤ 1) × (r.len ≤ 8) × (at + length (frame_text channel r) ≤ length out.old) × PairsOf Small pairs.now }
+// What stands after the stamp, and CR LF.
+fn put_line_frame(out: &mut [u8], at: usize, channel: u64, r: Record, pairs: &Pairs) -> usize
+    requires { (r.extended ≤ 1) × (r.kind ≤ 1) × (r.len ≤ 8) × (at + length (frame_text channel r) ≤ length out.old) × (pairs.now.letters ≡ Small) }
     ensures { Wrote out.old out.new at result (frame_text channel r) }
 {
     let p = put_source(out, at, r.extended);
@@ -162,9 +161,9 @@ pub fn put_line(
     part: u64,
     channel: u64,
     r: Record,
-    pairs: &[u8; 512],
+    pairs: &Pairs,
 ) -> usize
-    requires { (r.extended ≤ 1) × (r.kind ≤ 1) × (r.len ≤ 8) × ((s : AnyStamp) × (at + length (line_text s channel r) ≤ length out.old)) × PairsOf Small pairs.now }
+    requires { (r.extended ≤ 1) × (r.kind ≤ 1) × (r.len ≤ 8) × ((s : AnyStamp) × (at + length (line_text s channel r) ≤ length out.old)) × (pairs.now.letters ≡ Small) }
     ensures { (s : AnyStamp) → StampParts second.now part s → Wrote out.old out.new at result (line_text s channel r) }
 {
     let p = put_text(out, at, second);

@@ -1,10 +1,11 @@
 -- Behind the last data byte: the line ends there, and the record is whole; or it is none.
-use Prim.Native.Nat.{ℕ, ◌+◌}
+use Prim.Native.Nat.{ℕ}
 use mathlib.Core.Path.{◌≡◌, refl, ap, sym, ◌∙◌}
 use mathlib.Core.Logic.{◌≢◌}
 use mathlib.Core.List.{List, [], ◌∷◌, ◌++◌, append-nil, append_assoc}
 use native.Mathlib.Omega.{arith}
 use lib.ListN.{get_or, drop}
+use Rattle.std.specs.Prelude.{Some, None}
 use Rattle.record.specs.declared.Record.{Record}
 use Rattle.fields.specs.Parted.{Parted, none, blank_first}
 use Rattle.fields.specs.inner.Window.{LineBeforeCr}
@@ -12,9 +13,7 @@ use Rattle.fields.proofs.Parts.{only_none}
 use Rattle.fields.proofs.Window.{head_at}
 use Rattle.row.specs.Row.{Nothing, nothing, ByteFields, done}
 use Rattle.row_reader.proofs.Walk.{ends_here}
-use Rattle.ascii_line_reader.specs.declared.FrameRead.{FrameRead}
-use Rattle.ascii_line_reader.specs.inner.Frame.{DataOf, Left, found, Leads}
-use Rattle.ascii_line_reader.specs.inner.Frame.{none as None-found}
+use Rattle.ascii_line_reader.specs.inner.Frame.{DataOf, Left, Leads}
 
 -- What has no part is blanks alone.
 last_blank : (s : List ℕ) → s ≢ [] → Parted [] s → (t : List ℕ) × (s ≡ t ++ (32 ∷ []))
@@ -29,8 +28,8 @@ no_bytes (done nothing) = (refl, refl)
 
 module _ (x b k i n place sum : ℕ) {w : List ℕ} {e : ℕ} where
   -- something else stands behind it
-  pub not_last : {y : FrameRead} → get_or w e 0 ≢ 13 → y.end ≡ 0 → Leads (DataOf x b k i n place 0 sum) w e y
-  not_last {y} z h line from fs l = None-found h (λ t r c. go t (no_bytes c.1.2).0 l)
+  pub not_last : get_or w e 0 ≢ 13 → Leads (DataOf x b k i n place 0 sum) w e None
+  not_last z line from fs l t r c = go t (no_bytes c.1.2).0 l
     where
       some : {rest : List ℕ} → LineBeforeCr rest (drop e w) → rest ≢ []
       some {rest} m q = z (head_at w e (m.ended ∙ ap (λ (v : List ℕ). v ++ (13 ∷ m.rest)) q)).1
@@ -42,9 +41,9 @@ module _ (x b k i n place sum : ℕ) {w : List ℕ} {e : ℕ} where
 
   -- the line ends there
   pub last : get_or w e 0 ≡ 13 → (r : Record) → r.extended ∷ r.bus ∷ r.kind ∷ r.id ∷ r.len ∷ [] ≡ x ∷ b ∷ k ∷ i ∷ n ∷ [] → r.«data» ≡ sum
-      → Leads (DataOf x b k i n place 0 sum) w e (record { end = e; r = r })
+      → Leads (DataOf x b k i n place 0 sum) w e (Some record { end = e; r = r })
   last z r q d line from fs l =
       let v = ends_here w e l.here z in
       let g : fs ≡ [] = only_none (rw v at l.parted) in
       let y : line ≡ l.front = l.whole ∙ ap (λ (m : List ℕ). l.front ++ m) v ∙ append-nil l.front in
-      found (rw g (q, (0, omega arith, done nothing))) (rw y l.tight) (rw y l.place)
+      record { is = rw g (q, (0, omega arith, done nothing)); tight = rw y l.tight; end = rw y l.place }

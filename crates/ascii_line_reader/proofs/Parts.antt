@@ -11,6 +11,7 @@ use native.Mathlib.Decide.{ℕ_discrete, dec_lt}
 use lib.Dec.{T, leb}
 use lib.ListN.{length, get_or, take, drop, take-append-drop}
 use lib.Seq.{take-suc, take_all, length-take-le, drop-cons}
+use Rattle.std.specs.Prelude.{Option, Some, None}
 use Rattle.base.specs.Text.{text}
 use Rattle.base.specs.inner.Decides.{Decides}
 use Rattle.base.proofs.Tables.{every}
@@ -20,8 +21,7 @@ use Rattle.digits.proofs.Theorems.{one_hex, decimal_house}
 use Rattle.fields.specs.declared.Scan.{Scan}
 use Rattle.fields.specs.Runs.{All, empty, more}
 use Rattle.fields.specs.Columns.{BusField}
-use Rattle.fields.specs.inner.Window.{Solid, FieldAt, Starts, Takes, taken, HexField, TypeField, rx, tx, warng, error}
-use Rattle.fields.specs.inner.Window.{not as none-taken}
+use Rattle.fields.specs.inner.Window.{Solid, FieldAt, Starts, Taken, Takes, HexField, TypeField, rx, tx, warng, error}
 use Rattle.fields.proofs.Columns.{plain_solid, text_plain, type_one}
 use Rattle.fields.proofs.Runs.{all_map, all_at}
 use Rattle.fields.proofs.Window.{End, field_one}
@@ -63,40 +63,40 @@ module _ {word w : List ℕ} {at i : ℕ} (k : Stood word w at i) where
       let q : word ≡ take i word ++ (get_or word i 0 ∷ drop (suc i) word) = sym (take-append-drop i word) ∙ ap (λ (l : List ℕ). take i word ++ l) (drop-cons word i 0 h) in
       not_then (drop (suc i) word) k.begun (rw front n) a (e ∙ q)
 
-  -- the whole word
-  module _ (h : length word ≤ i) where
-    whole : i ≡ length word
-    whole = let l = k.few in omega arith
+-- The whole word.
+pub word_stands : {word w : List ℕ} {at i : ℕ} → Stood word w at i → length word ≤ i → StandsAt word w at
+word_stands {word} {i = i} k h = rw (take_all i word h) at k.begun
 
-    stands : StandsAt word w at
-    stands = rw (take_all i word h) at k.begun
+module _ {word w : List ℕ} {at : ℕ} (stands : StandsAt word w at) where
+  pub word_in : at + length word < length w
+  word_in = here stands
 
-    pub word_unended : {f rest : List ℕ} (r : Bool) → Decides (End (get_or w (at + i) 0)) r → r ≡ false → FieldAt f rest (drop at w) → f ≡ word → ⊥
-    word_unended r d e a q = unended stands r (rw whole at d) e a (ap length q)
+  pub word_unended : {f rest : List ℕ} (r : Bool) → Decides (End (get_or w (at + length word) 0)) r → r ≡ false → FieldAt f rest (drop at w) → f ≡ word → ⊥
+  word_unended r d e a q = unended stands r d e a (ap length q)
 
-    pub word_taken : (r : Bool) → 0 < length word → Decides (End (get_or w (at + i) 0)) r → r ≡ true
-        → Takes (λ v f. f ≡ word) w at (record { end = at + i; value = 0 })
-    word_taken r z d e = rw whole (taken (ended stands z r (rw whole at d) e) refl refl)
+  pub word_taken : (r : Bool) → 0 < length word → Decides (End (get_or w (at + length word) 0)) r → r ≡ true
+      → Taken (λ v f. f ≡ word) w at (record { end = at + length word; value = 0 })
+  word_taken r z d e = record { field = word; there = ended stands z r d e; place = refl; has = refl }
 
 -- The type: `CAN`, or else `CANExt`.
-pub standard_type : {w : List ℕ} {at : ℕ} {s : Scan} → Takes (λ v f. f ≡ text "CAN") w at s → s.end ≢ 0 → Takes TypePart w at (record { end = s.end; value = 0 })
+pub standard_type : {w : List ℕ} {at : ℕ} {s : Scan} → Taken (λ v f. f ≡ text "CAN") w at s → Taken TypePart w at (record { end = s.end; value = 0 })
 unfolding message_type_text
-standard_type (taken a e p) z = taken a e (record { bytes = p; few = omega arith })
-standard_type (none-taken e n) z = absurd (z e)
+standard_type t = record { field = t.field; there = t.there; place = t.place; has = record { bytes = t.has; few = omega arith } }
 
-pub other_type : {w : List ℕ} {at : ℕ} {s t : Scan} → Takes (λ v f. f ≡ text "CAN") w at s → s.end ≡ 0 → Takes (λ v f. f ≡ text "CANExt") w at t
-    → Takes TypePart w at (record { end = t.end; value = 1 })
+pub extended_type : {w : List ℕ} {at : ℕ} {s : Scan} → Taken (λ v f. f ≡ text "CANExt") w at s → Taken TypePart w at (record { end = s.end; value = 1 })
 unfolding message_type_text
-other_type (taken a e p) z t = let h = a.some in absurd (omega arith)
-other_type (none-taken e n) z (taken b g p) = taken b g (record { bytes = p; few = omega arith })
-other_type (none-taken e n) z (none-taken g m) = none-taken g (λ f rest a v p.
-    no_type v p.few (λ y. n f rest a 0 (p.bytes ∙ ap message_type_text y)) (λ y. m f rest a 0 (p.bytes ∙ ap message_type_text y)))
+extended_type t = record { field = t.field; there = t.there; place = t.place; has = record { bytes = t.has; few = omega arith } }
+
+pub neither_type : (w : List ℕ) (at : ℕ) → Takes (λ v f. f ≡ text "CAN") w at None → Takes (λ v f. f ≡ text "CANExt") w at None → Takes TypePart w at None
+unfolding message_type_text
+neither_type w at n m f rest a v p =
+    no_type v p.few (λ y. n f rest a 0 (p.bytes ∙ ap message_type_text y)) (λ y. m f rest a 0 (p.bytes ∙ ap message_type_text y))
 
 -- The number of a channel: a lone 0, or that of a bus.
 module _ {w : List ℕ} {at : ℕ} (b : Starts w at) where
-  pub bus_takes : {s : Scan} → get_or w at 0 ≢ 48 → Takes BusField w at s → Takes ChannelNumber w at s
-  bus_takes z (taken a e p) = taken a e (record { spelled = p.spelled; high = p.high })
-  bus_takes z (none-taken e n) = none-taken e (λ f rest a v p. go a p (ℕ_discrete v 0))
+  pub bus_takes : (s : Option Scan) → get_or w at 0 ≢ 48 → Takes BusField w at s → Takes ChannelNumber w at s
+  bus_takes (Some s) z t = record { field = t.field; there = t.there; place = t.place; has = record { spelled = t.has.spelled; high = t.has.high } }
+  bus_takes None z n = λ f rest a v p. go a p (ℕ_discrete v 0)
     where
       go : {f rest : List ℕ} {v : ℕ} → FieldAt f rest (drop at w) → ChannelNumber v f → Dec (v ≡ 0) → ⊥
       go a p (yes o) = not_first b z a (decimal_house p.spelled ∙ ap decimal_text o ∙ one 0 (omega arith))
@@ -106,8 +106,13 @@ module _ {w : List ℕ} {at : ℕ} (b : Starts w at) where
     pub zero_stands : StandsAt (48 ∷ []) w at
     zero_stands = first b e
 
-    pub zero_taken : (r : Bool) → Decides (End (get_or w (at + 1) 0)) r → r ≡ true → Takes ChannelNumber w at (record { end = at + 1; value = 0 })
-    zero_taken r d n = taken (ended zero_stands (omega arith) r d n) refl (record { spelled = rw (one 0 (omega arith)) at (decimal_spells 0); high = omega arith })
+    pub zero_taken : (r : Bool) → Decides (End (get_or w (at + 1) 0)) r → r ≡ true → Taken ChannelNumber w at (record { end = at + 1; value = 0 })
+    zero_taken r d n = record {
+      field = 48 ∷ [];
+      there = ended zero_stands (omega arith) r d n;
+      place = refl;
+      has = record { spelled = rw (one 0 (omega arith)) at (decimal_spells 0); high = omega arith };
+    }
 
     -- another byte behind it
     pub zero_first : {f rest : List ℕ} {v : ℕ} (r : Bool) → Decides (End (get_or w (at + 1) 0)) r → r ≡ false → FieldAt f rest (drop at w) → ChannelNumber v f → ⊥
@@ -130,15 +135,19 @@ module _ {w : List ℕ} {at : ℕ} (b : Starts w at) (e : get_or w at 0 ≡ 35) 
       let q = then_is sharp a l in
       ⊎_elim (λ z. s.blank (sym q ∙ z)) (λ z. s.end (sym q ∙ z)) h
 
-  pub channel_takes : {s : Scan} → Takes ChannelNumber w (at + 1) s → Takes ChannelPart w at s
-  channel_takes {s} (taken {f = g} a z p) =
-      taken {f = 35 ∷ g} (record { bytes = sharp.bytes ∙ ap (λ (l : List ℕ). 35 ∷ l) a.bytes; some = omega arith; solid = more (go sharp.solid) a.solid; stops = a.stops })
-      (omega arith) (record { bytes = ap (λ (l : List ℕ). 35 ∷ l) (decimal_house p.spelled); high = p.high })
+  pub channel_takes : (s : Option Scan) → Takes ChannelNumber w (at + 1) s → Takes ChannelPart w at s
+  channel_takes (Some s) t =
+      let a = t.there in
+      record {
+        field = 35 ∷ t.field;
+        there = record { bytes = sharp.bytes ∙ ap (λ (l : List ℕ). 35 ∷ l) a.bytes; some = omega arith; solid = more (go sharp.solid) a.solid; stops = a.stops };
+        place = omega (arith, t.place);
+        has = record { bytes = ap (λ (l : List ℕ). 35 ∷ l) (decimal_house t.has.spelled); high = t.has.high };
+      }
     where
       go : All Solid (35 ∷ []) → Solid 35
       go (more x y) = x
-  channel_takes {s} (none-taken z n) = none-taken z (λ f rest a v p.
-      n (decimal_text v) rest (behind v a p.bytes) v (record { spelled = decimal_spells v; high = p.high }))
+  channel_takes None n = λ f rest a v p. n (decimal_text v) rest (behind v a p.bytes) v (record { spelled = decimal_spells v; high = p.high })
     where
       behind : {f rest : List ℕ} (v : ℕ) → FieldAt f rest (drop at w) → f ≡ 35 ∷ decimal_text v → FieldAt (decimal_text v) rest (drop (at + 1) w)
       behind {f} {rest} v a q = record {
@@ -165,16 +174,18 @@ is_type zero p = rx p.bytes
 is_type (suc zero) p = tx p.bytes
 is_type (suc (suc v)) p = let h = p.few in absurd (omega arith)
 
-pub direction_takes : {w : List ℕ} {at : ℕ} {s : Scan} → s.value ≤ 1 → Takes TypeField w at s → Takes DirectionPart w at s
-direction_takes h (taken a e p) = taken a e (is_direction h p)
-direction_takes h (none-taken e n) = none-taken e (λ f rest a v p. n f rest a v (is_type v p))
+pub direction_taken : {w : List ℕ} {at : ℕ} {s : Scan} → s.value ≤ 1 → Taken TypeField w at s → Taken DirectionPart w at s
+direction_taken h t = record { field = t.field; there = t.there; place = t.place; has = is_direction h t.has }
 
-pub no_direction : {w f rest : List ℕ} {at v : ℕ} {s : Scan} → 1 < s.value → Takes TypeField w at s → FieldAt f rest (drop at w) → DirectionPart v f → ⊥
-no_direction {v = v} h (taken b e q) a p =
-    let z = type_one (rw (field_one a b).0 at (is_type v p)) q in
+pub no_direction : (w : List ℕ) (at : ℕ) → Takes TypeField w at None → Takes DirectionPart w at None
+no_direction w at n f rest a v p = n f rest a v (is_type v p)
+
+-- the other types are none
+pub other_direction : {w : List ℕ} {at : ℕ} {s : Scan} → 1 < s.value → Taken TypeField w at s → Takes DirectionPart w at None
+other_direction h t f rest a v p =
+    let z = type_one (rw (field_one a t.there).0 at (is_type v p)) t.has in
     let l = p.few in
     omega arith
-no_direction {v = v} h (none-taken e n) a p = n _ _ a v (is_type v p)
 
 -- The ID: a hexadecimal number of its width, within its limit.
 abbrev pub id_limit : ℕ → ℕ
@@ -190,22 +201,22 @@ within {x} {v} h p = go (ℕ_discrete x 0)
     go (yes e) = let l = p.standard e in omega arith
     go (no n) = let l = p.long in omega arith
 
-pub no_hex : {w f rest : List ℕ} {at x v : ℕ} {s : Scan} → x ≤ 1 → Takes HexField w at s → s.end ≡ 0 → FieldAt f rest (drop at w) → IdPart x v f → ⊥
-no_hex h (taken b e q) z a p = let l = b.some in omega arith
-no_hex h (none-taken e n) z a p = n _ _ a _ (is_hex h p)
+pub no_hex : (w : List ℕ) (at : ℕ) {x : ℕ} → x ≤ 1 → Takes HexField w at None → Takes (IdPart x) w at None
+no_hex w at h n f rest a v p = n f rest a v (is_hex h p)
 
 -- Where a number stands, an ID has its width and value.
-pub id_is : {w f rest : List ℕ} {at x v : ℕ} {s : Scan} → x ≤ 1 → Takes HexField w at s → s.end ≢ 0 → FieldAt f rest (drop at w) → IdPart x v f
-    → (s.end ≡ at + (3 + 5 * x)) × (s.value ≤ id_limit x)
-id_is h (none-taken e n) z a p = absurd (z e)
-id_is {x = x} {s = s} h (taken b e q) z a p =
-    let y = (field_one a b).0 in
-    let v : s.value ≡ _ = one_hex q.spelled (rw y at p.digits) in
-    let l = within h p in
-    (omega (arith, ap length y, p.digits.width), rw v l)
+module _ {w : List ℕ} {at x : ℕ} {s : Scan} (h : x ≤ 1) (t : Taken HexField w at s) where
+  pub id_is : {f rest : List ℕ} {v : ℕ} → FieldAt f rest (drop at w) → IdPart x v f → (s.end ≡ at + (3 + 5 * x)) × (s.value ≤ id_limit x)
+  id_is a p =
+      let y = (field_one a t.there).0 in
+      let v : s.value ≡ _ = one_hex t.has.spelled (rw y at p.digits) in
+      let l = within h p in
+      (omega (arith, t.place, ap length y, p.digits.width), rw v l)
 
-pub id_takes : {w : List ℕ} {at x : ℕ} {s : Scan} → x ≤ 1 → Takes HexField w at s → s.end ≢ 0 → s.end ≡ at + (3 + 5 * x) → s.value ≤ id_limit x
-    → Takes (IdPart x) w at s
-id_takes h (none-taken e n) z w l = absurd (z e)
-id_takes {x = x} h (taken {f = f} b e q) z w l =
-    taken b e (record { digits = record { digits = q.spelled.digits; width = omega arith }; standard = λ y. omega arith; long = omega arith })
+  pub id_taken : s.end ≡ at + (3 + 5 * x) → s.value ≤ id_limit x → Taken (IdPart x) w at s
+  id_taken e l = record {
+    field = t.field;
+    there = t.there;
+    place = t.place;
+    has = record { digits = record { digits = t.has.spelled.digits; width = omega (arith, t.place) }; standard = λ y. omega arith; long = omega arith };
+  }

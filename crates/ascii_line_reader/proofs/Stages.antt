@@ -1,10 +1,11 @@
 -- The parts behind the stamp, each as a stage of the chain.
-use Prim.Native.Nat.{ℕ, suc, ◌+◌, ◌*◌, ◌-◌, ◌/◌, ◌^◌, ◌≤◌}
+use Prim.Native.Nat.{ℕ, suc, ◌+◌, ◌*◌, ◌/◌, ◌^◌, ◌≤◌}
 use mathlib.Core.Path.{◌≡◌, refl, ap, ◌∙◌}
 use mathlib.Core.Logic.{◌≢◌}
 use mathlib.Core.List.{List, [], ◌∷◌}
 use native.Mathlib.Nat.{add_assoc}
 use native.Mathlib.Omega.{arith}
+use Rattle.std.specs.Prelude.{Option, Some, None}
 use Rattle.base.specs.Text.{text}
 use Rattle.digits.specs.Digits.{Hex}
 use Rattle.digits.proofs.Theorems.{one_hex}
@@ -14,7 +15,7 @@ use Rattle.record.specs.declared.Record.{Record}
 use Rattle.row.specs.Row.{Nothing, ByteFields, byte}
 use Rattle.ascii_line_reader.specs.declared.FrameRead.{FrameRead}
 use Rattle.ascii_line_reader.specs.inner.Columns.{TypePart, ChannelPart, DirectionPart, IdPart}
-use Rattle.ascii_line_reader.specs.inner.Frame.{FromType, from_type, from_channel, from_bar, no_word, word, from_direction, from_id, from_length, ChannelOf, BarOf, ExtendedOf, DirectionOf, IdOf, LengthOf, DataOf, Found, found, none, Leads}
+use Rattle.ascii_line_reader.specs.inner.Frame.{FromType, from_type, from_channel, from_bar, no_word, word, from_direction, from_id, from_length, ChannelOf, BarOf, ExtendedOf, DirectionOf, IdOf, LengthOf, DataOf, Found, Leads}
 use Rattle.ascii_line_reader.proofs.Columns.{type_one, channel_one, direction_one, id_one}
 use Rattle.ascii_line_reader.proofs.Chain.{Stage}
 
@@ -65,16 +66,18 @@ bar_stage x b = record { on = λ r p d. (d.0, from_bar p d.1); un = un; some = s
     more r e (k, from_bar q c) = nil e
 
 -- Without an extended ID no `EXTENDED` stands there.
-pub no_extended : {x b at : ℕ} {w : List ℕ} {y : FrameRead} → x ≡ 0 → Leads (DirectionOf x b) w at y → Leads (ExtendedOf x b) w at y
-no_extended {x} {b} {y = y} z d line from fs l = go (d line from fs l)
+pub no_extended : {x at : ℕ} {w : List ℕ} (b : ℕ) (y : Option FrameRead) → x ≡ 0 → Leads (DirectionOf x b) w at y → Leads (ExtendedOf x b) w at y
+no_extended {x} b y z d line from fs l = go y (d line from fs l)
   where
     back : {gs : List (List ℕ)} (r : Record) → ExtendedOf x b r gs → DirectionOf x b r gs
     back r (e, no_word n c) = (e, c)
     back r (e, word n q c) = let i : r.extended ≡ x = cc in absurd (omega arith)
 
-    go : Found (DirectionOf x b) line from fs y → Found (ExtendedOf x b) line from fs y
-    go (found c t q) = let i : y.r.extended ≡ x = cc c.0 in found (c.0, no_word (i ∙ z) c.1) t q
-    go (none q f) = none q (λ t r c. f t r (back r c))
+    go : (y : Option FrameRead) → Found (DirectionOf x b) line from fs y → Found (ExtendedOf x b) line from fs y
+    go (Some u) h =
+        let i : u.r.extended ≡ x = cc h.is.0 in
+        record { is = (h.is.0, no_word (i ∙ z) h.is.1); tight = h.tight; end = h.end }
+    go None h = λ t r c. h t r (back r c)
 
 -- `EXTENDED` stands for an extended ID.
 pub one : {x : ℕ} → x ≢ 0 → x ≤ 1 → x ≡ 1

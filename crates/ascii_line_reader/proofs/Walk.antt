@@ -1,16 +1,15 @@
 -- Walking over a line: the part behind a gap, taken or not, over any relation P of numbers and parts; and what is left of the line behind it.
 use Prim.Native.Nat.{ℕ, ◌<◌}
 use mathlib.Core.Path.{◌≡◌, ap, subst, ◌∙◌}
-use mathlib.Core.Logic.{◌≢◌}
 use mathlib.Core.List.{List, [], ◌∷◌, ◌++◌, append_assoc}
 use native.Mathlib.Omega.{arith}
-use lib.ListN.{length, get_or, drop, length-append}
+use lib.ListN.{length, drop, length-append}
 use lib.Seq.{slice, length-slice}
+use Rattle.std.specs.Prelude.{None}
 use Rattle.fields.specs.declared.Scan.{Scan}
 use Rattle.fields.specs.Runs.{All, more}
 use Rattle.fields.specs.Parted.{NoBlank, Parted}
-use Rattle.fields.specs.inner.Window.{LineBeforeCr, Lined, Skipped, Starts, Takes, taken}
-use Rattle.fields.specs.inner.Window.{not as none-taken}
+use Rattle.fields.specs.inner.Window.{LineBeforeCr, Lined, Skipped, Starts, EndAfter, Taken, Takes}
 use Rattle.fields.proofs.Parts.{unblanks, only_none, first_only}
 use Rattle.fields.proofs.Runs.{all_map, all_right}
 use Rattle.fields.proofs.Window.{inside}
@@ -46,9 +45,11 @@ pub record PartTaken (P : ℕ → List ℕ → Type 0) (line w : List ℕ) (from
   pub left : Left line w from s.end others
 
 pub part_on : {P : ℕ → List ℕ → Type 0} {line w : List ℕ} {from at a : ℕ} {fs : List (List ℕ)} {s : Scan}
-    → Skipped w at a → Starts w a → Takes P w a s → s.end ≢ 0 → Left line w from at fs → PartTaken P line w from fs s
-part_on k b (none-taken z _) n l = absurd (n z)
-part_on {line = line} {w = w} {at = at} {a = a} {s = s} k b (taken {f = f} g e p) n l =
+    → Skipped w at a → Starts w a → Taken P w a s → Left line w from at fs → PartTaken P line w from fs s
+part_on {line = line} {w = w} {at = at} {a = a} {s = s} k b t l =
+    let f = t.field in
+    let g = t.there in
+    let e = t.place in
     let x = behind_gap k l in
     let y = peel (drop s.end w) (all_map solid_plain g.solid) (rw g.bytes at x.2) in
     let dark = all_map solid_dark g.solid in
@@ -62,7 +63,7 @@ part_on {line = line} {w = w} {at = at} {a = a} {s = s} k b (taken {f = f} g e p
       part = f;
       others = u.0;
       is = u.1;
-      value = p;
+      value = t.has;
       left = record {
         front = front ++ f;
         rest = y.0;
@@ -74,23 +75,21 @@ part_on {line = line} {w = w} {at = at} {a = a} {s = s} k b (taken {f = f} g e p
       };
     }
 
-pub part_off : {P : ℕ → List ℕ → Type 0} {line w : List ℕ} {from at a : ℕ} {fs : List (List ℕ)} {s : Scan}
-    → Skipped w at a → Starts w a → Takes P w a s → s.end ≡ 0 → Left line w from at fs
+pub part_off : {P : ℕ → List ℕ → Type 0} {line w : List ℕ} {from at a : ℕ} {fs : List (List ℕ)}
+    → Skipped w at a → Starts w a → Takes P w a None → Left line w from at fs
     → (v : ℕ) (f : List ℕ) (gs : List (List ℕ)) → fs ≡ f ∷ gs → P v f → ⊥
-part_off k b (taken g e p) z l v f gs q h = let m = g.some in omega arith
-part_off {P = P} {w = w} {a = a} k b (none-taken _ refused) z l v f gs q h =
+part_off {P = P} {w = w} {a = a} k b refused l v f gs q h =
     let x = behind_gap k l in
     let y = first_field w a b x.2 x.3 in
     let e : f ≡ y.field = cc (q, y.first) in
     refused y.field y.rest y.there v (subst (P v) e h)
 
-pub part_over : {line w : List ℕ} {from at a : ℕ} {fs : List (List ℕ)} → Skipped w at a → get_or w a 0 ≡ 13 → Left line w from at fs → fs ≡ []
-part_over {w = w} {a = a} k e l =
-    let x = behind_gap k l in
-    only_none (rw (ends_here w a x.2 e) at x.3)
+pub part_over : {line w : List ℕ} {from at a : ℕ} {fs : List (List ℕ)} → EndAfter w at a → Left line w from at fs → fs ≡ []
+part_over {w = w} {a = a} k l =
+    let x = behind_gap k.skipped l in
+    only_none (rw (ends_here w a x.2 k.end) at x.3)
 
-pub part_lined : {P : ℕ → List ℕ → Type 0} {w : List ℕ} {a : ℕ} {s : Scan} → Starts w a → Takes P w a s → s.end ≢ 0 → Lined (drop s.end w)
-part_lined b (none-taken z _) n = absurd (n z)
-part_lined {w = w} {s = s} b (taken g e p) n =
-    let y = peel (drop s.end w) (all_map solid_plain g.solid) (rw g.bytes at b.lined.is) in
+pub part_lined : {P : ℕ → List ℕ → Type 0} {w : List ℕ} {a : ℕ} {s : Scan} → Starts w a → Taken P w a s → Lined (drop s.end w)
+part_lined {w = w} {s = s} b t =
+    let y = peel (drop s.end w) (all_map solid_plain t.there.solid) (rw t.there.bytes at b.lined.is) in
     record { line = y.0; is = y.2 }

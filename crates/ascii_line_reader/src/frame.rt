@@ -1,69 +1,57 @@
-// What stands behind the stamp of a line: a gap and a part for each column. Each is read in its turn, and hands what is known to the next.
+// What stands after the stamp of a line: a gap and a part for each column. Each is read in its turn, and hands what is known to the next.
 ghost use Rattle.std.specs.Prelude.{◌≡◌, ◌^◌, ◌≤◌, ◌<◌, length, drop};
-ghost use Rattle.digits.specs.inner.HexTable.{HexTable};
 ghost use Rattle.fields.specs.Runs.{All};
 ghost use Rattle.fields.specs.inner.Window.{Lined, Solid, Starts, Takes};
 ghost use Rattle.ascii_line_reader.specs.inner.Columns.{TypePart, ChannelNumber, ChannelPart, DirectionPart, IdPart};
-ghost use Rattle.ascii_line_reader.specs.inner.Frame.{FromType, ChannelOf, BarOf, ExtendedOf, DirectionOf, IdOf, LengthOf, DataOf, frame_of, Leads};
+ghost use Rattle.ascii_line_reader.specs.inner.Frame.{FromType, ChannelOf, BarOf, ExtendedOf, DirectionOf, IdOf, LengthOf, DataOf, Leads};
 
 use crate::FrameRead;
-use crate::stamp::none;
+use digits::HexDigits;
 use fields::{
-    Scan, WINDOW, at_end, bus_field, byte_field, ends, hex_field, length_field, skip_in, type_field,
+    Next, Scan, WINDOW, after_gap, at_end, bus_field, byte_field, ends, hex_field, length_field,
+    type_field,
 };
 use record::Record;
 use row::FIRST_PLACE;
 
-// No frame.
-pub fn no_frame() -> FrameRead
-    ensures { result.end ≡ 0 }
-{
-    frame_of(0, 0, 0, 0, 0, 0, 0)
-}
-
 // The bytes of a word that is spelled exactly.
-fn keyword(w: &[u8; WINDOW], at: usize, word: &[u8]) -> Scan
+fn keyword(w: &[u8; WINDOW], at: usize, word: &[u8]) -> Option<Scan>
     requires { Starts w.now at × All Solid word.now × (0 < length word.now) }
     ensures { Takes (λ v f. f ≡ word.now) w.now at result }
 {
     let bytes: &[u8] = w;
-    let mut i = 0;
-    while i < word.len() {
-        if bytes[at + i] != word[i] {
-            return none();
+    for (i, b) in word.iter().enumerate() {
+        if bytes[at + i] != *b {
+            return None;
         }
-        i += 1;
     }
-    if !ends(bytes[at + i]) {
-        return none();
+    let end = at + word.len();
+    if !ends(bytes[end]) {
+        return None;
     }
-    Scan {
-        end: at + i,
-        value: 0,
-    }
+    Some(Scan { end, value: 0 })
 }
 
 // `CAN` or `CANExt`.
-fn type_part(w: &[u8; WINDOW], at: usize) -> Scan
+fn type_part(w: &[u8; WINDOW], at: usize) -> Option<Scan>
     requires { Starts w.now at }
     ensures { Takes TypePart w.now at result }
 {
-    let s = keyword(w, at, b"CAN");
-    if s.end != 0 {
-        return Scan {
+    if let Some(s) = keyword(w, at, b"CAN") {
+        return Some(Scan {
             end: s.end,
             value: 0,
-        };
+        });
     }
-    let t = keyword(w, at, b"CANExt");
-    Scan {
+    let t = keyword(w, at, b"CANExt")?;
+    Some(Scan {
         end: t.end,
         value: 1,
-    }
+    })
 }
 
 // The channel: a lone 0, or that of a bus.
-fn channel_number(w: &[u8; WINDOW], at: usize) -> Scan
+fn channel_number(w: &[u8; WINDOW], at: usize) -> Option<Scan>
     requires { Starts w.now at }
     ensures { Takes ChannelNumber w.now at result }
 {
@@ -72,105 +60,96 @@ fn channel_number(w: &[u8; WINDOW], at: usize) -> Scan
         return bus_field(w, at);
     }
     if !ends(bytes[at + 1]) {
-        return none();
+        return None;
     }
-    Scan {
+    Some(Scan {
         end: at + 1,
         value: 0,
-    }
+    })
 }
 
 // `#` and the channel.
-fn channel_part(w: &[u8; WINDOW], at: usize) -> Scan
+fn channel_part(w: &[u8; WINDOW], at: usize) -> Option<Scan>
     requires { Starts w.now at }
     ensures { Takes ChannelPart w.now at result }
 {
     let bytes: &[u8] = w;
     if bytes[at] != b'#' {
-        return none();
+        return None;
     }
     if ends(bytes[at + 1]) {
-        return none();
+        return None;
     }
     channel_number(w, at + 1)
 }
 
 // `Rx` or `Tx`.
-fn direction_part(w: &[u8; WINDOW], at: usize) -> Scan
+fn direction_part(w: &[u8; WINDOW], at: usize) -> Option<Scan>
     requires { Starts w.now at }
     ensures { Takes DirectionPart w.now at result }
 {
-    let s = type_field(w, at);
+    let s = type_field(w, at)?;
     if 1 < s.value {
-        return none();
+        return None;
     }
-    s
+    Some(s)
 }
 
 // The ID: three digits, or eight of an extended one.
-fn id_part(w: &[u8; WINDOW], at: usize, hex: &[u8; 256], extended: u64) -> Scan
-    requires { Starts w.now at × HexTable hex.now × (extended ≤ 1) }
+fn id_part(w: &[u8; WINDOW], at: usize, hex: &HexDigits, extended: u64) -> Option<Scan>
+    requires { Starts w.now at × (extended ≤ 1) }
     ensures { Takes (IdPart extended) w.now at result }
 {
-    let s = hex_field(w, at, hex);
+    let s = hex_field(w, at, hex)?;
     let e = s.end;
-    if e == 0 {
-        return none();
-    }
     if e - at != 3 + 5 * extended as usize {
-        return none();
+        return None;
     }
     if 0x7FF + 0x1FFF_F800 * extended < s.value {
-        return none();
+        return None;
     }
-    s
+    Some(s)
 }
 
 // From the type on.
-pub fn frame_type(w: &[u8; WINDOW], at: usize, hex: &[u8; 256]) -> FrameRead
-    requires { Lined (drop at w.now) × HexTable hex.now }
+pub fn frame_type(w: &[u8; WINDOW], at: usize, hex: &HexDigits) -> Option<FrameRead>
+    requires { Lined (drop at w.now) }
     ensures { Leads FromType w.now at result }
 {
-    let a = skip_in(w, at);
-    if at_end(w, a) {
-        return no_frame();
-    }
-    let s = type_part(w, a);
-    if s.end == 0 {
-        return no_frame();
-    }
+    let Next::Field(a) = after_gap(w, at) else {
+        return None;
+    };
+    let s = type_part(w, a)?;
     frame_channel(w, s.end, hex, s.value)
 }
 
 // From the channel on.
-fn frame_channel(w: &[u8; WINDOW], at: usize, hex: &[u8; 256], extended: u64) -> FrameRead
-    requires { Lined (drop at w.now) × HexTable hex.now × (extended ≤ 1) }
+fn frame_channel(w: &[u8; WINDOW], at: usize, hex: &HexDigits, extended: u64) -> Option<FrameRead>
+    requires { Lined (drop at w.now) × (extended ≤ 1) }
     ensures { Leads (ChannelOf extended) w.now at result }
 {
-    let a = skip_in(w, at);
-    if at_end(w, a) {
-        return no_frame();
-    }
-    let s = channel_part(w, a);
-    if s.end == 0 {
-        return no_frame();
-    }
+    let Next::Field(a) = after_gap(w, at) else {
+        return None;
+    };
+    let s = channel_part(w, a)?;
     frame_bar(w, s.end, hex, extended, s.value)
 }
 
 // From the bar on.
-fn frame_bar(w: &[u8; WINDOW], at: usize, hex: &[u8; 256], extended: u64, bus: u64) -> FrameRead
-    requires { Lined (drop at w.now) × HexTable hex.now × (extended ≤ 1) }
+fn frame_bar(
+    w: &[u8; WINDOW],
+    at: usize,
+    hex: &HexDigits,
+    extended: u64,
+    bus: u64,
+) -> Option<FrameRead>
+    requires { Lined (drop at w.now) × (extended ≤ 1) }
     ensures { Leads (BarOf extended bus) w.now at result }
 {
-    let a = skip_in(w, at);
-    if at_end(w, a) {
-        return no_frame();
-    }
-    let s = keyword(w, a, b"|");
-    if s.end == 0 {
-        return no_frame();
-    }
+    let Next::Field(a) = after_gap(w, at) else {
+        return None;
+    };
+    let s = keyword(w, a, b"|")?;
     frame_extended(w, s.end, hex, extended, bus)
 }
 
@@ -178,24 +157,20 @@ fn frame_bar(w: &[u8; WINDOW], at: usize, hex: &[u8; 256], extended: u64, bus: u
 fn frame_extended(
     w: &[u8; WINDOW],
     at: usize,
-    hex: &[u8; 256],
+    hex: &HexDigits,
     extended: u64,
     bus: u64,
-) -> FrameRead
-    requires { Lined (drop at w.now) × HexTable hex.now × (extended ≤ 1) }
+) -> Option<FrameRead>
+    requires { Lined (drop at w.now) × (extended ≤ 1) }
     ensures { Leads (ExtendedOf extended bus) w.now at result }
 {
     if extended == 0 {
         return frame_direction(w, at, hex, extended, bus);
     }
-    let a = skip_in(w, at);
-    if at_end(w, a) {
-        return no_frame();
-    }
-    let s = keyword(w, a, b"EXTENDED");
-    if s.end == 0 {
-        return no_frame();
-    }
+    let Next::Field(a) = after_gap(w, at) else {
+        return None;
+    };
+    let s = keyword(w, a, b"EXTENDED")?;
     frame_direction(w, s.end, hex, extended, bus)
 }
 
@@ -203,21 +178,17 @@ fn frame_extended(
 fn frame_direction(
     w: &[u8; WINDOW],
     at: usize,
-    hex: &[u8; 256],
+    hex: &HexDigits,
     extended: u64,
     bus: u64,
-) -> FrameRead
-    requires { Lined (drop at w.now) × HexTable hex.now × (extended ≤ 1) }
+) -> Option<FrameRead>
+    requires { Lined (drop at w.now) × (extended ≤ 1) }
     ensures { Leads (DirectionOf extended bus) w.now at result }
 {
-    let a = skip_in(w, at);
-    if at_end(w, a) {
-        return no_frame();
-    }
-    let s = direction_part(w, a);
-    if s.end == 0 {
-        return no_frame();
-    }
+    let Next::Field(a) = after_gap(w, at) else {
+        return None;
+    };
+    let s = direction_part(w, a)?;
     frame_id(w, s.end, hex, extended, bus, s.value)
 }
 
@@ -225,22 +196,18 @@ fn frame_direction(
 fn frame_id(
     w: &[u8; WINDOW],
     at: usize,
-    hex: &[u8; 256],
+    hex: &HexDigits,
     extended: u64,
     bus: u64,
     kind: u64,
-) -> FrameRead
-    requires { Lined (drop at w.now) × HexTable hex.now × (extended ≤ 1) }
+) -> Option<FrameRead>
+    requires { Lined (drop at w.now) × (extended ≤ 1) }
     ensures { Leads (IdOf extended bus kind) w.now at result }
 {
-    let a = skip_in(w, at);
-    if at_end(w, a) {
-        return no_frame();
-    }
-    let s = id_part(w, a, hex, extended);
-    if s.end == 0 {
-        return no_frame();
-    }
+    let Next::Field(a) = after_gap(w, at) else {
+        return None;
+    };
+    let s = id_part(w, a, hex, extended)?;
     frame_length(w, s.end, hex, extended, bus, kind, s.value)
 }
 
@@ -248,84 +215,61 @@ fn frame_id(
 fn frame_length(
     w: &[u8; WINDOW],
     at: usize,
-    hex: &[u8; 256],
+    hex: &HexDigits,
     extended: u64,
     bus: u64,
     kind: u64,
     id: u64,
-) -> FrameRead
-    requires { Lined (drop at w.now) × HexTable hex.now }
+) -> Option<FrameRead>
+    requires { Lined (drop at w.now) }
     ensures { Leads (LengthOf extended bus kind id) w.now at result }
 {
-    let a = skip_in(w, at);
-    if at_end(w, a) {
-        return no_frame();
-    }
-    let s = length_field(w, a);
-    if s.end == 0 {
-        return no_frame();
-    }
-    frame_data(w, s.end, hex, extended, bus, kind, id, s.value)
-}
-
-// The frame of these values, `eight` being the eight data bytes.
-fn frame_of(
-    end: usize,
-    extended: u64,
-    bus: u64,
-    kind: u64,
-    id: u64,
-    len: u64,
-    eight: u64,
-) -> FrameRead
-    ensures { result ≡ frame_of end extended bus kind id len eight }
-{
-    let r = Record {
-        offset: 0,
-        bus,
-        kind,
-        extended,
-        id,
-        len,
-        data: eight,
+    let Next::Field(a) = after_gap(w, at) else {
+        return None;
     };
-    FrameRead { end, r }
+    let s = length_field(w, a)?;
+    frame_data(w, s.end, hex, extended, bus, kind, id, s.value)
 }
 
 // The data bytes, as many as the length says, to the end of the line.
 fn frame_data(
     w: &[u8; WINDOW],
     at: usize,
-    hex: &[u8; 256],
+    hex: &HexDigits,
     extended: u64,
     bus: u64,
     kind: u64,
     id: u64,
     len: u64,
-) -> FrameRead
-    requires { Lined (drop at w.now) × HexTable hex.now }
+) -> Option<FrameRead>
+    requires { Lined (drop at w.now) }
     ensures { Leads (DataOf extended bus kind id len (256 ^ 7) len 0) w.now at result }
 {
     let mut e = at;
     let mut place: u64 = FIRST_PLACE;
-    let mut left = len;
     let mut data: u64 = 0;
-    while 0 < left {
-        let a = skip_in(w, e);
-        if at_end(w, a) {
-            return no_frame();
-        }
-        let s = byte_field(w, a, hex);
-        if s.end == 0 {
-            return no_frame();
-        }
+    for _ in 0..len {
+        let Next::Field(a) = after_gap(w, e) else {
+            return None;
+        };
+        let s = byte_field(w, a, hex)?;
         data += s.value * place;
         place /= 256;
-        left -= 1;
         e = s.end;
     }
     if !at_end(w, e) {
-        return no_frame();
+        return None;
     }
-    frame_of(e, extended, bus, kind, id, len, data)
+    Some(FrameRead {
+        end: e,
+        r: Record {
+            offset: 0,
+            bus,
+            kind,
+            extended,
+            id,
+            len,
+            data,
+        },
+    })
 }

@@ -19,9 +19,8 @@ use Rattle.records.proofs.Lists.{each_all, each_map}
 use Rattle.records.proofs.Packing.{packed_length}
 use Rattle.fields.specs.Columns.{last_number}
 use Rattle.ascii_line.specs.Line.{line_text}
-use Rattle.ascii.specs.Promise.{export_numbers, line_of, Exports, line_count, left_count, Given, ExportPromise}
+use Rattle.ascii.specs.Promise.{export_done, export_refused, line_of, Exports, line_count, left_count, Given, ExportPromise}
 use Rattle.ascii.specs.Promise as export
-use Rattle.ascii.specs.declared.Exported.TheVariants as exported
 use Rattle.ascii.proofs.Answers.{one_export}
 use Rattle.ascii.proofs.Channels.{own_channel, same_channel}
 use Rattle.ascii.proofs.Exporting.{frame_line, counts_sum}
@@ -106,9 +105,9 @@ read_given {rs = rs} c q s h =
 -- What an export of it gives, whatever exports: the same values line by line, which spell the same start and records, as many lines as records and
 -- none left out; or no room for them.
 pub data ExportsBack (text old : List ℕ) (start n : ℕ) (a new : List ℕ) : Type 0 where
-  written : {rs : List Record} {out : List ℕ} → SpellsAscii start rs text → Respelled text out → SpellsAscii start rs out → a ≡ export_numbers (exported.Done (length out) n 0)
+  written : {rs : List Record} {out : List ℕ} → SpellsAscii start rs text → Respelled text out → SpellsAscii start rs out → a ≡ export_done (length out) n 0
       → new ≡ out ++ drop (length out) old → ExportsBack text old start n a new
-  no_space : {out : List ℕ} → Respelled text out → length old < length out → a ≡ export_numbers (exported.Refused 25 0) → new ≡ old
+  no_space : {out : List ℕ} → Respelled text out → length old < length out → a ≡ export_refused 25 0 → new ≡ old
       → ExportsBack text old start n a new
 
 exports_back : {start channel n : ℕ} {rs : List Record} {text old a new : List ℕ} → channel ≤ last_bus → Each (OnItsBus channel) rs

@@ -9,9 +9,8 @@ use Rattle.fields.specs.Columns.{last_number}
 use Rattle.record.specs.declared.Record.{Record}
 use Rattle.records.specs.Records.{packed}
 use Rattle.trace.specs.Trace.{size_limit}
-use Rattle.ascii_reader.specs.declared.AsciiRead.TheVariants as ascii_read
 use Rattle.ascii_reader.specs.Text.{SpellsAscii}
-use Rattle.ascii_reader.specs.Promise.{read_ascii_numbers, ReadAsciiPromise, large, refused, many, no_room, done}
+use Rattle.ascii_reader.specs.Promise.{ascii_done, ReadAsciiPromise, large, refused, many, no_room, done}
 use Rattle.ascii_reader.proofs.Stops.{not_refused, refused_numbers}
 use Rattle.ascii_reader.proofs.Answers.{one_read_ascii}
 
@@ -63,5 +62,5 @@ module _ {text before a after : List ℕ} where
   -- With at most 999,999 lines, and room, that is handed out which it spells.
   pub accepts : {start : ℕ} {rs : List Record} → length text ≤ size_limit → SpellsAscii start rs text → length rs ≤ last_number
       → 20 * length rs ≤ length before → ReadAsciiPromise text before a after
-      → (a ≡ read_ascii_numbers (ascii_read.Done start (length rs))) × (after ≡ packed rs ++ drop (20 * length rs) before)
+      → (a ≡ ascii_done start (length rs)) × (after ≡ packed rs ++ drop (20 * length rs) before)
   accepts h s l r p = one_read_ascii p (done h s l r refl refl)

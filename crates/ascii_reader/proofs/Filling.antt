@@ -1,5 +1,5 @@
 -- What the second pass keeps: the records of the lines up to `at` are packed, and those of the rest are to come. `last` is the offset of the last one.
-use Prim.Native.Nat.{ℕ, ◌+◌, ◌*◌, ◌-◌, ◌≤◌, ◌<◌}
+use Prim.Native.Nat.{ℕ, ◌+◌, ◌*◌, ◌≤◌, ◌<◌}
 use mathlib.Core.Path.{◌≡◌, refl, ap, sym, ◌∙◌}
 use mathlib.Core.List.{List, [], ◌∷◌, ◌++◌, append-nil, append_assoc}
 use native.Mathlib.Omega.{arith}
@@ -17,13 +17,14 @@ use Rattle.records.specs.Records.{mark_after, last_offset, packed}
 use Rattle.records.proofs.Packing.{mark_bit, last_more, marked, marked_length, packed_none, packed_more, packed_length}
 use Rattle.ascii_line_reader.specs.declared.LineRead.{LineRead}
 use Rattle.ascii_line_reader.specs.AsciiLine.{with_offset, instant, AsciiLine}
+use Rattle.ascii_line_reader.specs.inner.Answer.{tick_limit}
 use Rattle.ascii_line_reader.proofs.Theorems.{line_one, line_moved, line_formed}
 use Rattle.ascii_reader.specs.Text.{EndedLine, Lines, over, line, SpellsAscii}
 use Rattle.ascii_reader.specs.Promise.{NextStamp}
-use Rattle.ascii_reader.specs.inner.Passes.{RecordsFit, Filled}
+use Rattle.ascii_reader.specs.inner.Passes.{LineThere, Fault, early, late, RecordsFit, Filled}
 use Rattle.ascii_reader.proofs.Ends.{ended_one, ended_none}
+use Rattle.ascii_reader.proofs.Judging.{found_low}
 use Rattle.ascii_reader.proofs.One.{record_one, one_result}
-use Rattle.ascii_reader.proofs.Windows.{Found}
 
 pub record Filling (start : ℕ) (text old out : List ℕ) (at o last : ℕ) : Type 0 where
   pub within : at ≤ length text
@@ -47,70 +48,80 @@ filling f = record {
   latest = refl;
 }
 
--- The record of the next line is the first of those to come: its offset is the stamp, of n times 100 microseconds, less the start.
-record Head (start n : ℕ) (rs : List Record) (r : Record) (after : List ℕ) : Type 0 where
+-- The stamp of the next line, n times 100 microseconds, has an offset from the start.
+stamped : {start n : ℕ} {rs : List Record} {r : Record} {d : DateTime} {l after s : List ℕ} → Lines start rs s → EndedLine l after s → AsciiLine d r l
+    → n ≡ ticks d.time → (start * 1000 ≤ n * 100) × (n * 100 ≤ start * 1000 + offset_limit)
+stamped over t a q = absurd (ended_none t refl)
+stamped (line u b k h f) t a q =
+    let i = ap instant (line_one (rw (ended_one u t).0 at b) a).0 in
+    (omega (arith, i), omega (arith, i))
+
+-- The record of the next line, with its offset from the start, is the first of those to come.
+record Head (start offset : ℕ) (rs : List Record) (r : Record) (after : List ℕ) : Type 0 where
   others : List Record
-  low : start * 1000 ≤ n * 100
-  high : n * 100 - start * 1000 ≤ offset_limit
-  these : rs ≡ with_offset (n * 100 - start * 1000) r ∷ others
+  these : rs ≡ with_offset offset r ∷ others
   rest : Lines start others after
 
-head : {start n : ℕ} {rs : List Record} {r : Record} {d : DateTime} {l after s : List ℕ} → Lines start rs s → EndedLine l after s → AsciiLine d r l
-    → n ≡ ticks d.time → Head start n rs r after
-head over t a q = absurd (ended_none t refl)
-head {start} {n} {r = r} (line {r = x} {rs = others} u b k h f) t a q =
+head : {start n offset : ℕ} {rs : List Record} {r : Record} {d : DateTime} {l after s : List ℕ} → Lines start rs s → EndedLine l after s → AsciiLine d r l
+    → n ≡ ticks d.time → start * 1000 + offset ≡ n * 100 → Head start offset rs r after
+head over t a q e = absurd (ended_none t refl)
+head {offset = o} {r = r} (line {r = x} {rs = others} u b k h f) t a q e =
     let z = ended_one u t in
     let y = rw z.0 at b in
     let i = ap instant (line_one y a).0 in
-    let o = n * 100 - start * 1000 in
     let w : x ≡ with_offset o r = record_one y (line_moved o a) (omega (arith, i)) in
-    record {
-      others = others;
-      low = omega (arith, i);
-      high = omega (arith, i);
-      these = ap (λ (k : Record). k ∷ others) w;
-      rest = rw z.1 at f;
-    }
+    record { others = others; these = ap (λ (k : Record). k ∷ others) w; rest = rw z.1 at f }
 
 module _ {start : ℕ} {text old out : List ℕ} {at o last : ℕ} (f : Filling start text old out at o last) where
   pub out_length : length out ≡ length old
   out_length = ap length f.wrote.stored ∙ length-sets old 0 (packed f.before)
 
   -- A line that was found is the next of those to come.
-  module _ {x : LineRead} (g : Found text at x) where
-    abbrev this : Record
-    this = with_offset (x.ticks * 100 - start * 1000) x.r
+  module _ {x : LineRead} (g : LineThere text at x) where
+    stamp : (start * 1000 ≤ x.ticks * 100) × (x.ticks * 100 ≤ start * 1000 + offset_limit)
+    stamp = stamped f.rest g.ended g.is g.ticks
 
-    next : Head start x.ticks f.after x.r (drop x.end text)
-    next = head f.rest g.there g.is g.stamp
+    -- The start and its stamp are within the limit,
+    pub stamp_low : (10 * start ≤ tick_limit) × (x.ticks ≤ tick_limit)
+    stamp_low = let h = found_low g in (omega (arith, stamp.0), h)
 
-    pub stamp_low : start * 1000 ≤ x.ticks * 100
-    stamp_low = next.low
+    -- its stamp can stand there,
+    pub no_fault : {n : ℕ} → Fault start x.ticks n → ⊥
+    no_fault (early h) = omega (arith, stamp.0)
+    no_fault (late h) = omega (arith, stamp.1)
 
-    pub line_room : {mark : ℕ} → mark ≡ mark_after last this.offset → (o + 20 ≤ length out) × WellFormed this × (mark ≤ 1)
-    line_room e =
-        let h = next in
-        let m = f.room in
-        let b = mark_bit last this.offset in
-        (omega (arith, out_length, ap length h.these), line_formed (line_moved (x.ticks * 100 - start * 1000) g.is) h.high, rw e b)
+    -- and has this offset.
+    module _ {offset : ℕ} (q : (start * 1000 + offset ≡ x.ticks * 100) × (offset ≤ offset_limit)) where
+      abbrev this : Record
+      this = with_offset offset x.r
 
-    pub stored_line : {mark : ℕ} {new : List ℕ} → mark ≡ mark_after last this.offset → new ≡ sets out o (bytes 20 (number this mark))
-        → Filling start text old new x.end (o + 20) this.offset
-    stored_line {new = new} v e =
-        let h = next in
-        let m = f.room in
-        let b = last_offset f.before in
-        let w : Wrote out new o (o + 20) (marked b this) = record { next = omega (arith, marked_length b this); stored = rw (v, f.latest) at e } in
-        record {
-          within = g.within;
-          before = f.before ++ (this ∷ []);
-          after = h.others;
-          spelled = rw append_assoc (rw h.these at f.spelled);
-          rest = h.rest;
-          room = omega (arith, ap length h.these);
-          wrote = rw (packed_more f.before this) (then f.wrote w);
-          latest = sym (last_more f.before this);
-        }
+      next : Head start offset f.after x.r (drop x.end text)
+      next = head f.rest g.ended g.is g.ticks q.0
+
+      pub line_room : {mark : ℕ} → mark ≡ mark_after last this.offset → (o + 20 ≤ length out) × WellFormed this × (mark ≤ 1)
+      line_room e =
+          let h = next in
+          let m = f.room in
+          let b = mark_bit last this.offset in
+          (omega (arith, out_length, ap length h.these), line_formed (line_moved offset g.is) q.1, rw e b)
+
+      pub stored_line : {mark : ℕ} {new : List ℕ} → mark ≡ mark_after last this.offset → new ≡ sets out o (bytes 20 (number this mark))
+          → Filling start text old new x.end (o + 20) this.offset
+      stored_line {new = new} v e =
+          let h = next in
+          let m = f.room in
+          let b = last_offset f.before in
+          let w : Wrote out new o (o + 20) (marked b this) = record { next = omega (arith, marked_length b this); stored = rw (v, f.latest) at e } in
+          record {
+            within = g.within;
+            before = f.before ++ (this ∷ []);
+            after = h.others;
+            spelled = rw append_assoc (rw h.these at f.spelled);
+            rest = h.rest;
+            room = omega (arith, ap length h.these);
+            wrote = rw (packed_more f.before this) (then f.wrote w);
+            latest = sym (last_more f.before this);
+          }
 
   -- Some line is found, as long as something is left.
   pub some_line : at < length text → ((s : DateTime) → NextStamp s (drop at text) → ⊥) → ⊥

@@ -1,5 +1,5 @@
 -- What the first pass keeps, line by line.
-use Prim.Native.Nat.{ℕ, ◌+◌, ◌*◌, ◌-◌, ◌/◌, ◌≤◌, ◌<◌}
+use Prim.Native.Nat.{ℕ, ◌+◌, ◌*◌, ◌/◌, ◌≤◌, ◌<◌}
 use mathlib.Core.Path.{◌≡◌, refl, ap, sym, ◌∙◌}
 use mathlib.Core.Logic.{◌≢◌}
 use mathlib.Core.List.{List, [], ◌∷◌, ◌++◌, append-nil}
@@ -7,19 +7,17 @@ use native.Mathlib.Omega.{arith}
 use lib.ListN.{length, drop, length-append, length-drop, drop_of_length-le}
 use Rattle.base.specs.Limits.{offset_limit}
 use Rattle.clock.specs.declared.DateTime.{DateTime}
-use Rattle.clock.specs.Stamp.{ticks}
+use Rattle.std.specs.Prelude.{Ok}
 use Rattle.record.specs.declared.Record.{Record}
 use Rattle.ascii_line_reader.specs.declared.LineRead.{LineRead}
 use Rattle.ascii_line_reader.specs.AsciiLine.{with_offset, instant}
 use Rattle.ascii_line_reader.proofs.Theorems.{line_moved, line_ticks}
 use Rattle.ascii_line_reader.specs.inner.Answer.{tick_limit}
-use Rattle.ascii_reader.specs.declared.Judged.TheVariants as judged
-use Rattle.ascii_reader.specs.Text.{Lines, over, line, FirstStart, no_lines, cut}
+use Rattle.ascii_reader.specs.Text.{Lines, over, line, FirstStart, no_lines, cut, SpellsAscii}
 use Rattle.ascii_reader.specs.Promise.{ReadUpTo, NextStamp, AsciiRefusedAt}
 use Rattle.ascii_reader.specs.Promise
-use Rattle.ascii_reader.specs.inner.Passes.{FaultOf, none, early, late, Judges}
+use Rattle.ascii_reader.specs.inner.Passes.{LineThere, Fault, early, late, OffsetOf}
 use Rattle.ascii_reader.proofs.UpTo.{read_more}
-use Rattle.ascii_reader.proofs.Windows.{Found}
 
 -- The lines up to `at` are judged: they spell this start and as many records.
 pub record Judging (text : List ℕ) (at lines start : ℕ) : Type 0 where
@@ -64,56 +62,56 @@ first_more r (q ∷ rs) (first z p) f e = absurd (omega arith)
 first_more r (q ∷ rs) (later z p) (cut h) e = cut {r = q} h
 
 -- A stamp that was found lies below the limit.
-pub found_low : {text : List ℕ} {at : ℕ} {x : LineRead} → Found text at x → x.ticks ≤ tick_limit
-found_low f = omega (arith, f.stamp, line_ticks f.is)
+pub found_low : {text : List ℕ} {at : ℕ} {x : LineRead} → LineThere text at x → x.ticks ≤ tick_limit
+found_low f = omega (arith, f.ticks, line_ticks f.is)
 
-module _ {text : List ℕ} {at lines start next : ℕ} {x : LineRead} (j : Judging text at lines start) (f : Found text at x)
+module _ {text : List ℕ} {at lines start next : ℕ} {x : LineRead} (j : Judging text at lines start) (f : LineThere text at x)
     (k : StartFrom lines start x.ticks next) where
-  -- A line whose stamp can stand there.
-  pub counted_line : FaultOf next x.ticks 0 → Judging text x.end (lines + 1) next
-  counted_line (none l h) =
-      let o = x.ticks * 100 - next * 1000 in
+  -- The start and the stamp are within the limit,
+  pub both_low : (10 * next ≤ tick_limit) × (x.ticks ≤ tick_limit)
+  both_low = (start_low k j.low (found_low f), found_low f)
+
+  -- and a line whose stamp can stand there is counted.
+  pub counted_line : {o : ℕ} → OffsetOf next x.ticks (Ok o) → Judging text x.end (lines + 1) next
+  counted_line {o} h =
       let r = with_offset o x.r in
       let m = f.later in
       let n = j.few in
-      let e : instant f.s ≡ next * 1000 + o = omega (arith, f.stamp) in
+      let e : instant f.stamp ≡ next * 1000 + o = omega (arith, f.ticks, h.0) in
       let s = rw j.counted at k in
       record {
         within = f.within;
         few = omega arith;
-        low = start_low k j.low (found_low f);
+        low = both_low.0;
         records = j.records ++ (r ∷ []);
         read =
-            read_more j.read f.there (line_moved o f.is) e (omega arith) (restart s j.read.spelled.lines)
-            (first_more r j.records s j.read.spelled.first (omega arith));
+            read_more j.read f.ended (line_moved o f.is) e h.1 (restart s j.read.spelled.lines)
+            (first_more r j.records s j.read.spelled.first (omega (arith, h.0)));
         counted = omega (arith, j.counted, length-append j.records (r ∷ []));
       }
 
   -- One whose stamp can't: the promise's refusal.
-  pub refused_stamp : {n : ℕ} → FaultOf next x.ticks n → n ≢ 0 → AsciiRefusedAt text n (lines + 1)
-  refused_stamp {n} g z = rw j.counted (go (rw j.counted at k) g z)
+  pub refused_stamp : {n : ℕ} → Fault next x.ticks n → AsciiRefusedAt text n (lines + 1)
+  refused_stamp {n} g = rw j.counted (go (rw j.counted at k) g)
     where
-      this : NextStamp f.s (drop at text)
-      this = record { line = f.line; after = _; there = f.there; r = x.r; is = f.is }
+      this : NextStamp f.stamp (drop at text)
+      this = record { line = f.line; after = _; there = f.ended; r = x.r; is = f.is }
 
-      too_early : (rs : List Record) → ReadUpTo start rs (drop at text) text → length rs ≢ 0 → instant f.s < start * 1000
+      too_early : (rs : List Record) → ReadUpTo start rs (drop at text) text → length rs ≢ 0 → instant f.stamp < start * 1000
           → AsciiRefusedAt text 32 (length rs + 1)
       too_early [] u e h = absurd (e refl)
       too_early (r ∷ rs) u e h = Promise.early u this h
 
-      too_late : (rs : List Record) → ReadUpTo start rs (drop at text) text → length rs ≢ 0 → start * 1000 + offset_limit < instant f.s
+      too_late : (rs : List Record) → ReadUpTo start rs (drop at text) text → length rs ≢ 0 → start * 1000 + offset_limit < instant f.stamp
           → AsciiRefusedAt text 33 (length rs + 1)
       too_late [] u e h = absurd (e refl)
       too_late (r ∷ rs) u e h = Promise.late u this h
 
-      go : {n : ℕ} → StartFrom (length j.records) start x.ticks next → FaultOf next x.ticks n → n ≢ 0
-          → AsciiRefusedAt text n (length j.records + 1)
-      go (first e q) (none l h) z = absurd (z refl)
-      go (first e q) (early h) z = absurd (omega arith)
-      go (first e q) (late h) z = absurd (omega arith)
-      go (later e q) (none l h) z = absurd (z refl)
-      go (later e q) (early h) z = too_early j.records j.read e (omega (arith, f.stamp))
-      go (later e q) (late h) z = too_late j.records j.read e (omega (arith, f.stamp))
+      go : {n : ℕ} → StartFrom (length j.records) start x.ticks next → Fault next x.ticks n → AsciiRefusedAt text n (length j.records + 1)
+      go (first e q) (early h) = absurd (omega arith)
+      go (first e q) (late h) = absurd (omega arith)
+      go (later e q) (early h) = too_early j.records j.read e (omega (arith, f.ticks))
+      go (later e q) (late h) = too_late j.records j.read e (omega (arith, f.ticks))
 
 -- What is left is no line.
 pub refused_line : {text : List ℕ} {at lines start : ℕ} → Judging text at lines start → at < length text → ((s : DateTime) → NextStamp s (drop at text) → ⊥)
@@ -122,7 +120,8 @@ refused_line {text} {at} j h f =
     rw j.counted (Promise.no_line j.read (λ e. omega (arith, ap length e, length-drop at text)) f)
 
 -- All lines are judged.
-pub finished : {text : List ℕ} {at lines start : ℕ} → Judging text at lines start → length text ≤ at → Judges text (judged.Good start lines)
+pub finished : {text : List ℕ} {at lines start : ℕ} → Judging text at lines start → length text ≤ at
+    → (rs : List Record) × SpellsAscii start rs text × (lines ≡ length rs)
 finished {text} {at} {start = start} j h =
     let u = j.read in
     let e : u.front ≡ text = sym (u.whole ∙ ap (λ (s : List ℕ). u.front ++ s) (drop_of_length-le text h) ∙ append-nil u.front) in

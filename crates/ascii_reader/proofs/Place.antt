@@ -8,9 +8,8 @@ use lib.ListN.{length}
 use Rattle.fields.specs.Runs.{All}
 use Rattle.lines.specs.Lines.{Inside}
 use Rattle.record.specs.declared.Record.{Record}
-use Rattle.ascii_reader.specs.declared.AsciiRead.TheVariants as ascii_read
 use Rattle.ascii_reader.specs.Text.{SpellsAscii}
-use Rattle.ascii_reader.specs.Promise.{read_ascii_numbers, AsciiRefusedAt, ReadAsciiPromise, large, refused, many, no_room, done}
+use Rattle.ascii_reader.specs.Promise.{ascii_refused, AsciiRefusedAt, ReadAsciiPromise, large, refused, many, no_room, done}
 use Rattle.ascii_reader.proofs.Ends.{LineEnd, end_some}
 use Rattle.ascii_reader.proofs.UpTo.{next_same, spelled_next}
 use Rattle.ascii_reader.proofs.Stops.{Stopped, stopped, stop_some, stop_next}
@@ -51,7 +50,7 @@ pub place : {text : List ℕ} {n p : ℕ} → AsciiRefusedAt text n p → Place 
 place f = placed (stopped f)
 
 -- The same of every answer that keeps the promise, with 31, 32 or 33.
-pub read_place : {text before a after : List ℕ} {n p : ℕ} → ReadAsciiPromise text before a after → a ≡ read_ascii_numbers (ascii_read.Refused n p)
+pub read_place : {text before a after : List ℕ} {n p : ℕ} → ReadAsciiPromise text before a after → a ≡ ascii_refused n p
     → 31 ≤ n → n ≤ 33 → Place text p
 read_place {n = n} (large h e q) d l m = let z : n ≡ 1 = cc (e, d) in absurd (omega arith)
 read_place {p = p} (refused {p = o} h f e q) d l m = let y : p ≡ o = cc (e, d) in rw y (place f)

@@ -1,14 +1,13 @@
 -- A line read in the window, where CR stands for LF: where it stands in the text, and that none stands there otherwise.
 use Prim.Native.Nat.{ℕ, suc, ◌+◌, ◌-◌, ◌≤◌, ◌<◌}
 use mathlib.Core.Path.{◌≡◌, refl, ap, sym, ◌∙◌}
-use mathlib.Core.Logic.{◌≢◌, ◌⊎◌, inl, inr}
+use mathlib.Core.Logic.{◌⊎◌, inl, inr}
 use mathlib.Core.List.{List, [], ◌∷◌, ◌++◌, append_assoc, append-nil}
 use native.Mathlib.Omega.{arith}
 use native.Mathlib.Decide.{dec_lt}
 use lib.ListN.{length, get_or, take, drop, length-append, length-drop, take-append-drop}
 use lib.Seq.{drop_at, drop-drop, take-append-add, get_or-take, get_or-drop, length-take-le}
-use Rattle.clock.specs.declared.DateTime.{DateTime}
-use Rattle.clock.specs.Stamp.{ticks}
+use Rattle.std.specs.Prelude.{Some, None}
 use Rattle.fields.specs.Runs.{All}
 use Rattle.fields.specs.inner.Window.{LineBeforeCr}
 use Rattle.fields.proofs.Runs.{all_map}
@@ -19,13 +18,10 @@ use Rattle.row_reader.proofs.Whole.{framed}
 use Rattle.trace.specs.inner.Passes.{Reaches}
 use Rattle.trace.proofs.Rows.{View, view}
 use Rattle.ascii_line_reader.specs.declared.LineRead.{LineRead}
-use Rattle.ascii_line_reader.specs.AsciiLine.{AsciiLine}
-use Rattle.ascii_line_reader.specs.inner.Answer.{LineFound, line_found, no_line}
-use Rattle.ascii_line_reader.proofs.Theorems.{line_some}
+use Rattle.ascii_line_reader.specs.inner.Answer.{LineHere, LineFound}
 use Rattle.ascii_reader.specs.Text.{EndedLine}
-use Rattle.ascii_reader.specs.Promise.{NextStamp}
-use Rattle.ascii_reader.specs.inner.Ends.{cr_for, cr_for_all, EndAt, feed, return, none}
-use Rattle.ascii_reader.specs.inner.Passes.{LineAt, here, nowhere}
+use Rattle.ascii_reader.specs.inner.Ends.{cr_for, cr_for_all, EndHere, feed, return, NoEndHere}
+use Rattle.ascii_reader.specs.inner.Passes.{LineThere, LineAt}
 use Rattle.ascii_reader.proofs.Ends.{closed, cr_all_length, cr_all_drop, cr_all_at, cr_all_line, plain_front}
 
 -- The byte that the window has for one of the text.
@@ -39,20 +35,22 @@ held_length text from n h = length-take-le n (drop from (cr_for_all text)) (omeg
 
 -- The end of a line, and of none.
 
-pub ends_feed : (text : List ℕ) (at e : ℕ) → e - at ≤ line_limit → at ≤ e → e < length text → get_or text e 0 ≡ 10 → EndAt text at e (e + 1)
+pub ends_feed : (text : List ℕ) (at e : ℕ) → e - at ≤ line_limit → at ≤ e → e < length text → get_or text e 0 ≡ 10 → EndHere text at e (e + 1)
 ends_feed text at e h a l b = feed (omega arith) (at_head text e l b) refl (omega arith)
 
 pub ends_return : (text : List ℕ) (at e : ℕ) → e - at ≤ line_limit → at ≤ e → e + 1 < length text → get_or text e 0 ≡ 13 → get_or text (e + 1) 0 ≡ 10
-    → EndAt text at e (e + 2)
+    → EndHere text at e (e + 2)
 ends_return text at e h a l b c =
     let n : e + 1 + 1 ≡ e + 2 = omega arith in
     return (omega arith) (at_head text e (omega arith) b ∙ ap (λ (s : List ℕ). 13 ∷ s) (rw n at (at_head text (e + 1) l c))) refl (omega arith)
 
 -- None stands there, if it is not so.
 pub no_end : (text : List ℕ) (at e : ℕ) → (e ≤ at + line_limit → e < length text → get_or text e 0 ≡ 10 → ⊥)
-    → (e ≤ at + line_limit → e + 1 < length text → get_or text e 0 ≡ 13 → get_or text (e + 1) 0 ≡ 10 → ⊥) → EndAt text at e 0
-no_end text at e f g = none refl (λ rest h q. let x = head_at text e q in f h x.0 x.1)
-    (λ rest h q. let x = head_at text e q in let y = head_at text (e + 1) x.2 in g h y.0 x.1 y.1)
+    → (e ≤ at + line_limit → e + 1 < length text → get_or text e 0 ≡ 13 → get_or text (e + 1) 0 ≡ 10 → ⊥) → NoEndHere text at e
+no_end text at e f g = record {
+  feed = λ rest h q. let x = head_at text e q in f h x.0 x.1;
+  return = λ rest h q. let x = head_at text e q in let y = head_at text (e + 1) x.2 in g h y.0 x.1 y.1;
+}
 
 module _ (text : List ℕ) {w : List ℕ} {at from : ℕ} (reach : Reaches (cr_for_all text) at from w) (inside : at ≤ length text) where
   abbrev n : ℕ
@@ -86,13 +84,17 @@ module _ (text : List ℕ) {w : List ℕ} {at from : ℕ} (reach : Reaches (cr_f
       long k j s z (yes h) = let m = win.most h in omega (arith, cr_all_length text)
       long k j s z (no h) = omega arith
 
-  module _ {x : LineRead} (read : (line : List ℕ) → LineBeforeCr line (drop (at - from) w) → LineFound line (at - from) x) where
+  -- No line was read, and none stands there.
+  pub not_read : ((line : List ℕ) → LineBeforeCr line (drop (at - from) w) → LineFound line (at - from) None) → LineAt text at None
+  not_read read s u = read u.line (in_window u.there) s u.r u.is
+
+  module _ {x : LineRead} (read : (line : List ℕ) → LineBeforeCr line (drop (at - from) w) → LineFound line (at - from) (Some x)) where
     -- The line that was read, in the text.
     record Seen : Type 0 where
       line : List ℕ
       plain : All Inside line
       bytes : drop at text ≡ line ++ drop (at + length line) text
-      found : LineFound line (at - from) x
+      found : LineHere line (at - from) x
 
     seen : Seen
     seen = let f = framed front win.over in go f.line f.is f.all
@@ -118,68 +120,51 @@ module _ (text : List ℕ) {w : List ℕ} {at from : ℕ} (reach : Reaches (cr_f
     seen_within s = omega (arith, ap length s.bytes ∙ length-append s.line (drop (at + length s.line) text), length-drop at text)
 
     -- Where what was read ends.
-    pub end_near : x.end ≢ 0 → (at ≤ from + x.end) × (from + x.end ≤ length text)
-    end_near z = let s = seen in go s.found (seen_within s)
-      where
-        go : {line : List ℕ} → LineFound line (at - from) x → at + length line ≤ length text → (at ≤ from + x.end) × (from + x.end ≤ length text)
-        go (line_found a t e) h = let b = reach.starts in (omega arith, omega arith)
-        go (no_line e f) h = absurd (z e)
+    pub end_near : (at ≤ from + x.end) × (from + x.end ≤ length text)
+    end_near = let s = seen in let b = reach.starts in (omega (arith, s.found.end), omega (arith, s.found.end, seen_within s))
 
-    -- No line was read, and none stands there.
-    pub not_read : x.end ≡ 0 → (s : DateTime) → NextStamp s (drop at text) → ⊥
-    not_read z s u = go (read u.line (in_window u.there))
-      where
-        go : LineFound u.line (at - from) x → ⊥
-        go (line_found a t e) = omega (arith, line_some a)
-        go (no_line e f) = f s u.r u.is
+    at_end_lem : (line : List ℕ) → x.end ≡ at - from + length line → from + x.end ≡ at + length line
+    at_end_lem line e = let b = reach.starts in omega arith
 
     -- A line was read, and this is its end.
-    pub line_here : {next : ℕ} → x.end ≢ 0 → EndAt text at (from + x.end) next → LineAt text at (record { end = next; ticks = x.ticks; r = x.r })
-    line_here {next} z end = let s = seen in go s s.found end
+    pub line_here : {next : ℕ} → EndHere text at (from + x.end) next → LineThere text at (record { end = next; ticks = x.ticks; r = x.r })
+    line_here {next} end = let s = seen in go s (at_end_lem s.line s.found.end) end
       where
-        at_end_lem : (line : List ℕ) → x.end ≡ at - from + length line → from + x.end ≡ at + length line
-        at_end_lem line e = let b = reach.starts in omega arith
+        whole : (s : Seen) {y : List ℕ} → from + x.end ≡ at + length s.line → drop (from + x.end) text ≡ y → drop at text ≡ s.line ++ y
+        whole s p q = s.bytes ∙ ap (λ (i : ℕ). s.line ++ drop i text) (sym p) ∙ ap (λ (y : List ℕ). s.line ++ y) q
 
-        whole : (s : Seen) {y : List ℕ} → x.end ≡ at - from + length s.line → drop (from + x.end) text ≡ y → drop at text ≡ s.line ++ y
-        whole s e q = s.bytes ∙ ap (λ (i : ℕ). s.line ++ drop i text) (sym (at_end_lem s.line e)) ∙ ap (λ (y : List ℕ). s.line ++ y) q
+        go : (s : Seen) → from + x.end ≡ at + length s.line → EndHere text at (from + x.end) next
+            → LineThere text at (record { end = next; ticks = x.ticks; r = x.r })
+        go s p (feed h q i l) = record {
+          stamp = s.found.stamp;
+          line = s.line;
+          ended = record { inside = s.plain; short = omega arith; ended = inr (whole s p q) };
+          is = s.found.is;
+          ticks = s.found.ticks;
+          later = omega arith;
+          within = l;
+        }
+        go s p (return h q i l) = record {
+          stamp = s.found.stamp;
+          line = s.line;
+          ended = record { inside = s.plain; short = omega arith; ended = inl (whole s p q) };
+          is = s.found.is;
+          ticks = s.found.ticks;
+          later = omega arith;
+          within = l;
+        }
 
-        go : (s : Seen) → LineFound s.line (at - from) x → EndAt text at (from + x.end) next → LineAt text at (record { end = next; ticks = x.ticks; r = x.r })
-        go s (no_line e f) q = absurd (z e)
-        go s (line_found a t e) (feed h q i l) =
-            let p = at_end_lem s.line e in
-            here (record { inside = s.plain; short = omega arith; ended = inr (whole s e q) }) a t (omega arith) l
-        go s (line_found a t e) (return h q i l) =
-            let p = at_end_lem s.line e in
-            here (record { inside = s.plain; short = omega arith; ended = inl (whole s e q) }) a t (omega arith) l
-        go s (line_found a t e) (none m f1 f2) = nowhere m (λ d u. other u (read u.line (in_window u.there)))
-          where
-            other : {d : DateTime} (u : NextStamp d (drop at text)) → LineFound u.line (at - from) x → ⊥
-            other u (no_line e g) = z e
-            other u (line_found a t e) = ends u.there.ended
-              where
-                behind : {r : List ℕ} → drop at text ≡ u.line ++ r → drop (from + x.end) text ≡ r
-                behind {r} q =
-                    let p = at_end_lem u.line e in
-                    ap (λ (i : ℕ). drop i text) p ∙ sym (drop-drop (length u.line) at text) ∙ ap (drop (length u.line)) q ∙ drop_at u.line r (length u.line) refl
+    -- It has no end there: no line stands there.
+    pub not_ended : NoEndHere text at (from + x.end) → LineAt text at None
+    not_ended n d u = ends u.there.ended
+      where
+        p : from + x.end ≡ at + length u.line
+        p = at_end_lem u.line (read u.line (in_window u.there)).end
 
-                ends : (drop at text ≡ u.line ++ (13 ∷ 10 ∷ u.after)) ⊎ (drop at text ≡ u.line ++ (10 ∷ u.after)) → ⊥
-                ends (inl q) = let p = at_end_lem u.line e in let h = u.there.short in f2 u.after (omega arith) (behind q)
-                ends (inr q) = let p = at_end_lem u.line e in let h = u.there.short in f1 u.after (omega arith) (behind q)
+        behind : {r : List ℕ} → drop at text ≡ u.line ++ r → drop (from + x.end) text ≡ r
+        behind {r} q =
+            ap (λ (i : ℕ). drop i text) p ∙ sym (drop-drop (length u.line) at text) ∙ ap (drop (length u.line)) q ∙ drop_at u.line r (length u.line) refl
 
--- What was found: the line and its stamp.
-pub record Found (text : List ℕ) (at : ℕ) (x : LineRead) : Type 0 where
-  pub s : DateTime
-  pub line : List ℕ
-  pub there : EndedLine line (drop x.end text) (drop at text)
-  pub is : AsciiLine s x.r line
-  pub stamp : x.ticks ≡ ticks s.time
-  pub later : at < x.end
-  pub within : x.end ≤ length text
-
-pub was_found : {text : List ℕ} {at : ℕ} {x : LineRead} → LineAt text at x → x.end ≢ 0 → Found text at x
-was_found (here t a e l w) z = record { s = _; line = _; there = t; is = a; stamp = e; later = l; within = w }
-was_found (nowhere e f) z = absurd (z e)
-
-pub not_found : {text : List ℕ} {at : ℕ} {x : LineRead} → LineAt text at x → x.end ≡ 0 → (s : DateTime) → NextStamp s (drop at text) → ⊥
-not_found (here t a e l w) z = absurd (omega arith)
-not_found (nowhere e f) z = f
+        ends : (drop at text ≡ u.line ++ (13 ∷ 10 ∷ u.after)) ⊎ (drop at text ≡ u.line ++ (10 ∷ u.after)) → ⊥
+        ends (inl q) = let h = u.there.short in n.return u.after (omega (arith, p)) (behind q)
+        ends (inr q) = let h = u.there.short in n.feed u.after (omega (arith, p)) (behind q)

@@ -1,5 +1,5 @@
 -- What `read_ascii` promises for every text and every output. In words: docs/FORMAT.md, section 15.
-use Rattle.std.specs.Prelude.{ℕ, ◌+◌, ◌*◌, ◌≤◌, ◌<◌, ◌≡◌, ◌≢◌, List, [], ◌∷◌, ◌++◌, length, drop}
+use Rattle.std.specs.Prelude.{Result, Ok, Err, ℕ, ◌+◌, ◌*◌, ◌≤◌, ◌<◌, ◌≡◌, ◌≢◌, List, [], ◌∷◌, ◌++◌, length, drop}
 use Rattle.base.specs.Limits.{offset_limit}
 use Rattle.clock.specs.declared.DateTime.{DateTime}
 use Rattle.record.specs.declared.Record.{Record}
@@ -8,18 +8,25 @@ use Rattle.fields.specs.Columns.{last_number}
 use Rattle.trace.specs.Trace.{size_limit}
 use Rattle.ascii_line_reader.specs.AsciiLine.{instant, AsciiLine}
 use Rattle.ascii_reader.specs.declared.AsciiRead.{AsciiRead}
-use Rattle.ascii_reader.specs.declared.AsciiRead.TheVariants as ascii-read
+use Rattle.base.specs.declared.refusal.Refused.{Refused}
+use Rattle.base.specs.Refusal.{number_of}
 use Rattle.ascii_reader.specs.Text.{EndedLine, SpellsAscii}
 
 -- Number, place, start and records for each answer.
-abbrev pub read_ascii_numbers : AsciiRead → List ℕ
-read_ascii_numbers (ascii-read.Done start n) = 0 ∷ 0 ∷ start ∷ n ∷ []
-read_ascii_numbers (ascii-read.Refused n p) = n ∷ p ∷ 0 ∷ 0 ∷ []
+abbrev pub ascii_done : ℕ → ℕ → List ℕ
+ascii_done start records = 0 ∷ 0 ∷ start ∷ records ∷ []
+
+abbrev pub ascii_refused : ℕ → ℕ → List ℕ
+ascii_refused number place = number ∷ place ∷ 0 ∷ 0 ∷ []
+
+abbrev pub read_ascii_numbers : Result AsciiRead Refused → List ℕ
+read_ascii_numbers (Ok a) = ascii_done a.start a.records
+read_ascii_numbers (Err e) = ascii_refused (number_of e.reason) e.place
 
 -- An answer that is a refusal has a number other than 0: the empty text, which has start 0 and no records, is not refused.
-pub data Numbered : AsciiRead → Type 0 where
-  is_done : {start n : ℕ} → Numbered (ascii-read.Done start n)
-  is_refused : {n p : ℕ} → 0 < n → Numbered (ascii-read.Refused n p)
+pub data Numbered : Result AsciiRead Refused → Type 0 where
+  is_done : {a : AsciiRead} → Numbered (Ok a)
+  is_refused : {e : Refused} → 0 < number_of e.reason → Numbered (Err e)
 
 -- The text is lines that spell this start and these records, and then rest.
 pub record ReadUpTo (start : ℕ) (rs : List Record) (rest text : List ℕ) : Type 0 where
@@ -48,17 +55,17 @@ pub data AsciiRefusedAt (text : List ℕ) : ℕ → ℕ → Type 0 where
 -- `read_ascii` of a text, into an output that held `before` and then holds `after`, gives the numbers a.
 pub data ReadAsciiPromise (text before a after : List ℕ) : Type 0 where
   -- the text is too long
-  large : size_limit < length text → a ≡ read_ascii_numbers (ascii-read.Refused 1 0) → after ≡ before → ReadAsciiPromise text before a after
+  large : size_limit < length text → a ≡ ascii_refused 1 0 → after ≡ before → ReadAsciiPromise text before a after
   -- the refusal of the first line that stops it
-  refused : {n p : ℕ} → length text ≤ size_limit → AsciiRefusedAt text n p → a ≡ read_ascii_numbers (ascii-read.Refused n p) → after ≡ before
+  refused : {n p : ℕ} → length text ≤ size_limit → AsciiRefusedAt text n p → a ≡ ascii_refused n p → after ≡ before
       → ReadAsciiPromise text before a after
   -- records are spelled as it, and they are too many
   many : {start : ℕ} {rs : List Record} → length text ≤ size_limit → SpellsAscii start rs text → last_number < length rs
-      → a ≡ read_ascii_numbers (ascii-read.Refused 34 0) → after ≡ before → ReadAsciiPromise text before a after
+      → a ≡ ascii_refused 34 0 → after ≡ before → ReadAsciiPromise text before a after
   -- they are not, and there is no room
   no_room : {start : ℕ} {rs : List Record} → length text ≤ size_limit → SpellsAscii start rs text → length rs ≤ last_number
-      → length before < 20 * length rs → a ≡ read_ascii_numbers (ascii-read.Refused 8 0) → after ≡ before → ReadAsciiPromise text before a after
+      → length before < 20 * length rs → a ≡ ascii_refused 8 0 → after ≡ before → ReadAsciiPromise text before a after
   -- there is: the start and the records are handed out
   done : {start : ℕ} {rs : List Record} → length text ≤ size_limit → SpellsAscii start rs text → length rs ≤ last_number
-      → 20 * length rs ≤ length before → a ≡ read_ascii_numbers (ascii-read.Done start (length rs))
+      → 20 * length rs ≤ length before → a ≡ ascii_done start (length rs)
       → after ≡ packed rs ++ drop (20 * length rs) before → ReadAsciiPromise text before a after

@@ -18,16 +18,14 @@ fn cr_for(b: u8) -> u8
     b
 }
 
-// Puts so many bytes of a text, from a place on, at the front of a window, and CR behind them.
+// Puts so many bytes of a text, from a place on, at the front of a window, and CR after them.
 fn copy_lines(text: &[u8], from: usize, n: usize, w: &mut [u8; WINDOW])
     requires { (from + n ≤ length text.now) × (n < window_bytes) }
     ensures { w.new ≡ take n (drop from (cr_for_all text.now)) ++ (cr ∷ drop (n + 1) w.old) }
 {
     let slots: &mut [u8] = w;
-    let mut i = 0;
-    while i < n {
+    for i in 0..n {
         slots[i] = cr_for(text[from + i]);
-        i += 1;
     }
     slots[n] = b'\r';
 }

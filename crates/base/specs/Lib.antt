@@ -1,4 +1,5 @@
 pub mod Limits
+pub mod Refusal
 pub mod Spaced
 pub mod Text
 pub mod inner

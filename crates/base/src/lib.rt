@@ -1,9 +1,13 @@
 // What every layer shares: the largest offset and the last bus, one byte widened, bytes stored, the end of a line.
 #![tactic(auto)]
 
+mod refusal;
+
 ghost use Rattle.std.specs.Prelude.{◌≡◌, [], ◌∷◌, ◌+◌, ◌≤◌, ◌<◌, length};
 ghost use Rattle.base.specs.Text.{cr, lf};
 ghost use Rattle.base.specs.inner.Wrote.{Wrote};
+
+pub use refusal::{Refusal, Refused};
 
 // The most digits of an offset's milliseconds.
 pub const OFFSET_DIGITS: usize = 12;
@@ -14,11 +18,11 @@ pub const OFFSET_LIMIT: u64 = 281_474_976_710_655;
 // The last bus, and so the last channel of a line of Telemotive ASCII.
 pub const LAST_BUS: u64 = 16;
 
-// A byte as a number. A read through it asks only for the index, where a cast would ask for the byte's range too.
+// A byte as a number, and its bound.
 pub fn wide(b: u8) -> u64
     ensures { (result ≡ b) × (result < 256) }
 {
-    b as u64
+    u64::from(b)
 }
 
 // Puts one byte at a position, and gives the position after it.
@@ -54,10 +58,8 @@ pub fn put_text(out: &mut [u8], at: usize, text: &[u8]) -> usize
     requires { at + length text.now ≤ length out.old }
     ensures { Wrote out.old out.new at result text.now }
 {
-    let mut i = 0;
-    while i < text.len() {
-        out[at + i] = text[i];
-        i += 1;
+    for (i, b) in text.iter().enumerate() {
+        out[at + i] = *b;
     }
-    at + i
+    at + text.len()
 }

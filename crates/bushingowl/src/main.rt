@@ -1,12 +1,10 @@
 // The bench program: one trace from standard input, its ASCII export or its refusal to standard output.
 #![tactic(auto)]
 
-ghost use Rattle.std.specs.Prelude.{◌≤◌, ◌<◌, ◌≡◌, length, take, IfOk};
-ghost use Rattle.std.specs.Io.{ReadsAtMost};
-ghost use Rattle.std.specs.Io.KnownBytes.{Consumes, IsAtEnd};
+ghost use Rattle.std.specs.Prelude.{◌≤◌, ◌<◌, ◌≡◌, length, take};
 ghost use Rattle.convert.specs.Promise.{input_limit, records_room, page_room, Prints};
 
-use convert::{INPUT_LIMIT, Printed, convert};
+use convert::{INPUT_LIMIT, convert, taken};
 use std::io;
 use std::io::Read;
 
@@ -36,37 +34,14 @@ fn page_space() -> [u8; PAGE]
     [0; PAGE]
 }
 
-// Takes a reader into a space with room for more than an input may have: so what fills the space is too long, and no first part of it is
-// taken for a whole trace.
-fn taken<R: Read>(from: &mut R, space: &mut [u8]) -> io::Result<usize>
-    requires { input_limit < length space.old }
-    ensures bound { ReadsAtMost result space.new }
-    ensures bytes { IfOk result (λ n. Consumes (R.remaining from.old) (R.remaining from.new) (take n space.new)) }
-    ensures whole { IfOk result (λ n. n < length space.new → IsAtEnd (R.remaining from.new)) }
-{
-    let mut done = 0;
-    while done < space.len() {
-        let n = from.read(&mut space[done..])?;
-        if n == 0 {
-            return Ok(done);
-        }
-        done += n;
-    }
-    Ok(done)
-}
-
 // Puts what is to be printed for an input at the start of the page, which has room for it, and gives its length.
 fn paged(input: &[u8], records: &mut [u8], page: &mut [u8]) -> usize
     requires { (records_room ≤ length records.old) × (page_room ≤ length page.old) }
-    ensures upper_bound { result ≤ length page.new }
+    ensures within { result ≤ length page.new }
     ensures prints { Prints input.now (take result page.new) }
 {
-    let r = convert(input, records, page);
-    match r {
-        Printed::Page(n) => n,
-        // never, with the rooms that are required
-        Printed::Short => 0,
-    }
+    // with the rooms that are required there is always something to print
+    convert(input, records, page).unwrap_or(0)
 }
 
 // Prints the first n bytes of a page, all of them or with an error.

@@ -1,16 +1,8 @@
 // Cases of converting an input to what is printed for it.
 ghost use Rattle.std.specs.Prelude.{◌≡◌, length};
 
-use convert::Printed;
 use std::io;
 use testing::{before, behind, fill, front, none, number, numbers, output, put, rest};
-
-// The words `convert`, `long` and `noise`, in their letters.
-const CONVERT: u64 = 0x636F6E76657274;
-
-const LONG: u64 = 0x6C6F6E67;
-
-const NOISE: u64 = 0x6E6F697365;
 
 fn input_space() -> [u8; 70000]
     ensures { 70000 ≡ length result }
@@ -32,13 +24,13 @@ fn page_space() -> [u8; 313040]
 }
 
 // What is printed: its length and its bytes, or none where what is lent is too short.
-fn printed(rt: &impl Print, r: Printed, page: &[u8]) -> io::Result<()> {
-    match r {
-        Printed::Page(n) => {
+fn printed(rt: &impl Print, bytes: Option<usize>, page: &[u8]) -> io::Result<()> {
+    match bytes {
+        Some(n) => {
             number(rt, n as u64)?;
             output(rt, page, n)
         }
-        Printed::Short => {
+        None => {
             none(rt)?;
             rest(rt, page, 0)
         }
@@ -87,10 +79,8 @@ fn put_line(out: &mut [u8], at: usize, line: &[u8], k: u64) -> usize {
 // Puts a line for each number from 1 to n.
 fn put_lines(out: &mut [u8], at: usize, line: &[u8], n: u64) -> usize {
     let mut p = at;
-    let mut k = 0;
-    while k < n {
-        k += 1;
-        p = put_line(out, p, line, k);
+    for k in 0..n {
+        p = put_line(out, p, line, k + 1);
     }
     p
 }
@@ -127,11 +117,9 @@ fn put_above(out: &mut [u8], at: usize, b: u64, low: u64) -> usize {
 fn put_noise(out: &mut [u8], at: usize, seed: u64, n: u64, low: u64) -> usize {
     let mut p = at;
     let mut x = seed;
-    let mut i = 0;
-    while i < n {
+    for _ in 0..n {
         x = next(x);
         p = put_above(out, p, x / 65536 % 256, low);
-        i += 1;
     }
     p
 }
@@ -146,22 +134,14 @@ fn noise(rt: &impl Print, s: &[u8], seed: u64, n: u64, low: u64) -> io::Result<(
 }
 
 // Tries a case of converting, if the word is one. The text stands behind a colon and a blank.
-pub(crate) fn tried(rt: &impl Print, word: u64, line: &[u8]) -> io::Result<bool> {
+pub(crate) fn tried(rt: &impl Print, word: &[u8], line: &[u8]) -> io::Result<bool> {
     let a = numbers(before(line, b':'), 2, 2);
     let s = behind(behind(line, b':'), b' ');
     match word {
-        CONVERT => {
-            converted(rt, s, a[0] as usize, a[1] as usize)?;
-            Ok(true)
-        }
-        LONG => {
-            long(rt, s, a[0])?;
-            Ok(true)
-        }
-        NOISE => {
-            noise(rt, s, a[0], a[1], a[2])?;
-            Ok(true)
-        }
-        _ => Ok(false),
+        b"convert" => converted(rt, s, a[0] as usize, a[1] as usize)?,
+        b"long" => long(rt, s, a[0])?,
+        b"noise" => noise(rt, s, a[0], a[1], a[2])?,
+        _ => return Ok(false),
     }
+    Ok(true)
 }

@@ -13,11 +13,10 @@ mod time;
 mod writing;
 
 ghost use Rattle.std.specs.Prelude.{◌≡◌, ◌≤◌, ◌<◌, length};
-ghost use Rattle.std.specs.Io.{ReadsAtMost};
 
+use convert::taken;
 use std::io;
-use std::io::Read;
-use testing::{before, behind, byte, fill, find, front, key, shown, text, value};
+use testing::{before, behind, byte, fill, front, shown, text, value};
 
 // Room for a case with two fields that are longer than a window.
 fn line_space() -> [u8; 10000]
@@ -41,45 +40,45 @@ fn cases_space() -> [u8; 524288]
 }
 
 // Tries a case of records, if the word is one.
-fn of_records(rt: &impl Print, word: u64, line: &[u8]) -> io::Result<bool> {
-    if packing::tried(rt, word, line)? {
-        return Ok(true);
-    }
-    if rows::tried(rt, word, line)? {
-        return Ok(true);
-    }
-    writing::tried(rt, word, line)
+fn of_records(rt: &impl Print, word: &[u8], line: &[u8]) -> io::Result<bool> {
+    Ok(
+        packing::tried(rt, word, line)?
+            || rows::tried(rt, word, line)?
+            || writing::tried(rt, word, line)?,
+    )
 }
 
 // Tries a case of numbers, if the word is one.
-fn of_numbers(rt: &impl Print, word: u64, line: &[u8]) -> io::Result<bool> {
-    if strings::tried(rt, word, line)? {
-        return Ok(true);
-    }
-    time::tried(rt, word, line)
+fn of_numbers(rt: &impl Print, word: &[u8], line: &[u8]) -> io::Result<bool> {
+    Ok(strings::tried(rt, word, line)? || time::tried(rt, word, line)?)
 }
 
 // Tries a case of a text or of a line, if the word is one.
-fn of_texts(rt: &impl Print, word: u64, line: &[u8]) -> io::Result<bool> {
-    if reading::tried(rt, word, line)? {
-        return Ok(true);
+fn of_texts(rt: &impl Print, word: &[u8], line: &[u8]) -> io::Result<bool> {
+    Ok(
+        reading::tried(rt, word, line)?
+            || returned::tried(rt, word, line)?
+            || explaining::tried(rt, word, line)?,
+    )
+}
+
+// A word without the NULs before it, which don't count in one of at most eight bytes.
+fn without_nuls(word: &[u8]) -> &[u8] {
+    if 8 < word.len() {
+        return word;
     }
-    if returned::tried(rt, word, line)? {
-        return Ok(true);
+    for i in 0..word.len() {
+        if word[i] != 0 {
+            return &word[i..];
+        }
     }
-    explaining::tried(rt, word, line)
+    word
 }
 
 // One case. Its first word says what is tried.
 fn tried(rt: &impl Print, line: &[u8]) -> io::Result<()> {
-    let word = key(before(before(line, b' '), b':'));
-    if of_texts(rt, word, line)? {
-        return Ok(());
-    }
-    if of_records(rt, word, line)? {
-        return Ok(());
-    }
-    if of_numbers(rt, word, line)? {
+    let word = without_nuls(before(before(line, b' '), b':'));
+    if of_texts(rt, word, line)? || of_records(rt, word, line)? || of_numbers(rt, word, line)? {
         return Ok(());
     }
     if inputs::tried(rt, word, line)? {
@@ -101,10 +100,8 @@ fn case(rt: &impl Print, line: &[u8], n: u64, given: &[u8]) -> io::Result<()> {
 
 // A case for each number from the first to the last.
 fn each(rt: &impl Print, line: &[u8], first: u64, last: u64, given: &[u8]) -> io::Result<()> {
-    let mut n = first;
-    while n < last {
+    for n in first..last {
         case(rt, line, n, given)?;
-        n += 1;
     }
     case(rt, line, last, given)
 }
@@ -133,46 +130,16 @@ fn cases(rt: &impl Print, line: &[u8], given: &[u8]) -> io::Result<()> {
     }
 }
 
-// Where the text begins that `%` stands for: behind the first byte of the line at a place if that is a `%`, or where it began before.
-fn given_from(s: &[u8], at: usize, before: usize) -> usize
-    requires { (at < length s.now) × (before ≤ length s.now) }
-    ensures { result ≤ length s.now }
-{
-    if s[at] == b'%' {
-        return at + 1;
-    }
-    before
-}
-
 // The cases of all lines. A line that begins with `%` says what `%` stands for from there on.
 fn lines(rt: &impl Print, s: &[u8]) -> io::Result<()> {
-    let mut given = 0;
-    let mut at = 0;
-    while at < s.len() {
-        let end = find(s, at, b'\n');
-        given = given_from(s, at, given);
-        cases(rt, &s[at..end], before(&s[given..], b'\n'))?;
-        if s.len() <= end {
-            return Ok(());
+    let mut given = before(s, b'\n');
+    for line in s.split(|b| *b == b'\n') {
+        if let Some(text) = line.strip_prefix(b"%") {
+            given = text;
         }
-        at = end + 1;
+        cases(rt, line, given)?;
     }
     Ok(())
-}
-
-// Reads into a space until it is full or the input ends, and gives how many bytes were read.
-fn taken(from: &mut impl Read, space: &mut [u8]) -> io::Result<usize>
-    ensures { ReadsAtMost result space.new }
-{
-    let mut done = 0;
-    while done < space.len() {
-        let n = from.read(&mut space[done..])?;
-        if n == 0 {
-            return Ok(done);
-        }
-        done += n;
-    }
-    Ok(done)
 }
 
 fn main(rt: HostRuntime) -> io::Result<()> {

@@ -1,14 +1,10 @@
 // Cases of packing and unpacking one record, and the bytes of records that are given in words.
 ghost use Rattle.std.specs.Prelude.{◌≡◌, ◌+◌, ◌≤◌, ◌<◌, length};
 
-use record::{Packed, Record, Unpacked};
+use base::Refused;
+use record::{Record, Unpacked};
 use std::io;
 use testing::{before, behind, bytes, find, front, number, numbers, rest};
-
-// The words `pack` and `unpack`, in their letters.
-const PACK: u64 = 0x7061636B;
-
-const UNPACK: u64 = 0x756E7061636B;
 
 // Offset, bus, kind, extended, ID, length and data (in hexadecimal).
 pub(crate) fn fields(rt: &impl Print, r: Record) -> io::Result<()> {
@@ -23,36 +19,32 @@ pub(crate) fn fields(rt: &impl Print, r: Record) -> io::Result<()> {
 }
 
 // Number and place of a refusal, and whether the output is untouched.
-pub(crate) fn refused(rt: &impl Print, n: u64, place: u64, out: &[u8]) -> io::Result<()> {
-    number(rt, n)?;
-    number(rt, place)?;
+pub(crate) fn refused(rt: &impl Print, e: Refused, out: &[u8]) -> io::Result<()> {
+    reason(rt, e)?;
     rest(rt, out, 0)
+}
+
+// Number and place of a refusal.
+pub(crate) fn reason(rt: &impl Print, e: Refused) -> io::Result<()> {
+    number(rt, e.reason.number())?;
+    number(rt, e.place)
 }
 
 // The seven fields that begin some numbers.
 pub(crate) fn record_of(a: [u64; 9]) -> Record {
-    Record {
-        offset: a[0],
-        bus: a[1],
-        kind: a[2],
-        extended: a[3],
-        id: a[4],
-        len: a[5],
-        data: a[6],
-    }
+    Record::from([a[0], a[1], a[2], a[3], a[4], a[5], a[6]])
 }
 
-fn packed(rt: &impl Print, a: Packed, out: &[u8; 24]) -> io::Result<()> {
+fn packed(rt: &impl Print, a: Result<(), Refused>, out: &[u8; 24]) -> io::Result<()> {
     let all: &[u8] = out;
     match a {
-        Packed::Done => {
+        Ok(()) => {
             number(rt, 0)?;
             number(rt, 0)?;
             bytes(rt, &all[0..20])?;
             rest(rt, all, 20)
         }
-        Packed::Malformed => refused(rt, 23, 1, all),
-        Packed::Short => refused(rt, 25, 0, all),
+        Err(e) => refused(rt, e, all),
     }
 }
 
@@ -71,9 +63,7 @@ fn put_word(out: &mut [u8], at: usize, count: usize, n: u64)
     requires { at + count ≤ length out.old }
 {
     let mut rest = n;
-    let mut i = count;
-    while 0 < i {
-        i -= 1;
+    for i in (0..count).rev() {
         out[at + i] = (rest % 256) as u8;
         rest /= 256;
     }
@@ -119,6 +109,7 @@ fn put_kth(out: &mut [u8], k: usize, s: &[u8]) {
 fn put_each(out: &mut [u8], s: &[u8]) {
     let mut k = 0;
     let mut at = 0;
+    // No `split`: an empty text has no record, and none stands after a semicolon at the end.
     while at < s.len() {
         let end = find(s, at, b';');
         k += 1;
@@ -147,22 +138,14 @@ pub(crate) fn records_of(s: &[u8], k: usize) -> [u8; 300] {
 
 fn unpacked(rt: &impl Print, s: &[u8]) -> io::Result<()> {
     bytes(rt, s)?;
-    let u = record::unpack(s);
-    match u {
-        Unpacked::Fields { r, mark } => {
+    match record::unpack(s) {
+        Ok(Unpacked { r, mark }) => {
             number(rt, 0)?;
             number(rt, 0)?;
             fields(rt, r)?;
             number(rt, mark)
         }
-        Unpacked::NotTwenty => {
-            number(rt, 20)?;
-            number(rt, 0)
-        }
-        Unpacked::Malformed => {
-            number(rt, 23)?;
-            number(rt, 1)
-        }
+        Err(e) => reason(rt, e),
     }
 }
 
@@ -174,17 +157,12 @@ fn unpack(rt: &impl Print, a: [u64; 9]) -> io::Result<()> {
 }
 
 // Tries a case of one record, if the word is one.
-pub(crate) fn tried(rt: &impl Print, word: u64, line: &[u8]) -> io::Result<bool> {
+pub(crate) fn tried(rt: &impl Print, word: &[u8], line: &[u8]) -> io::Result<bool> {
     let a = numbers(line, 2, 2);
     match word {
-        PACK => {
-            pack(rt, record_of(a), a[7], a[8] as usize)?;
-            Ok(true)
-        }
-        UNPACK => {
-            unpack(rt, a)?;
-            Ok(true)
-        }
-        _ => Ok(false),
+        b"pack" => pack(rt, record_of(a), a[7], a[8] as usize)?,
+        b"unpack" => unpack(rt, a)?,
+        _ => return Ok(false),
     }
+    Ok(true)
 }

@@ -1,38 +1,18 @@
 // Cases of reading: a text as a trace, a line as a row.
-use crate::packing::fields;
+use crate::packing::{fields, reason};
 use crate::writing::{exported, page, written};
-use row_reader::Reading;
+use base::Refused;
 use std::io;
 use testing::{before, behind, bytes, front, none, number, numbers, rest};
-use trace::Outcome;
+use trace::TraceRead;
 
-// The words `read`, `cut`, `again` and `row`, in their letters.
-const READ: u64 = 0x72656164;
-
-const CUT: u64 = 0x637574;
-
-const AGAIN: u64 = 0x616761696E;
-
-const ROW: u64 = 0x726F77;
-
-// Number, place, version, start, rows, first step back and first number.
-fn seven(
-    rt: &impl Print,
-    n: u64,
-    place: u64,
-    version: u64,
-    start: u64,
-    rows: u64,
-    step_back: u64,
-    first: u64,
-) -> io::Result<()> {
-    number(rt, n)?;
-    number(rt, place)?;
-    number(rt, version)?;
-    number(rt, start)?;
-    number(rt, rows)?;
-    number(rt, step_back)?;
-    number(rt, first)
+// Version, start, rows, first step back and first number.
+fn counts(rt: &impl Print, t: TraceRead) -> io::Result<()> {
+    number(rt, t.version)?;
+    number(rt, t.start)?;
+    number(rt, t.rows)?;
+    number(rt, t.step_back)?;
+    number(rt, t.first)
 }
 
 // How many bytes so many records are; there are few in these cases.
@@ -48,20 +28,19 @@ pub(crate) fn packed(rt: &impl Print, out: &[u8], end: usize) -> io::Result<()> 
     rest(rt, out, end)
 }
 
-fn answer(rt: &impl Print, a: Outcome, out: &[u8]) -> io::Result<()> {
+fn answer(rt: &impl Print, a: Result<TraceRead, Refused>, out: &[u8]) -> io::Result<()> {
     match a {
-        Outcome::Done {
-            version,
-            start,
-            rows,
-            step_back,
-            first,
-        } => {
-            seven(rt, 0, 0, version, start, rows, step_back, first)?;
-            packed(rt, out, size(rows))
+        Ok(t) => {
+            number(rt, 0)?;
+            number(rt, 0)?;
+            counts(rt, t)?;
+            packed(rt, out, size(t.rows))
         }
-        Outcome::Refused { number: n, place } => {
-            seven(rt, n, place, 0, 0, 0, 0, 0)?;
+        Err(e) => {
+            reason(rt, e)?;
+            for _ in 0..5 {
+                number(rt, 0)?;
+            }
             rest(rt, out, 0)
         }
     }
@@ -84,55 +63,31 @@ pub(crate) fn read(rt: &impl Print, s: &[u8], room: usize) -> io::Result<()> {
 // Reads a text of three rows, writes it again and exports it, bus 0 as a channel.
 fn again(rt: &impl Print, s: &[u8], room: usize, channel: u64) -> io::Result<()> {
     let mut records = [238u8; 60];
-    let a = trace::read(s, &mut records);
-    match a {
-        Outcome::Done {
-            version,
-            start,
-            rows: _,
-            step_back: _,
-            first,
-        } => {
-            written(rt, version, start, first, &records, room)?;
-            exported(rt, start, channel, &records, room, false)
-        }
-        Outcome::Refused {
-            number: _,
-            place: _,
-        } => none(rt),
-    }
+    let Ok(t) = trace::read(s, &mut records) else {
+        return none(rt);
+    };
+    written(rt, t.version, t.start, t.first, &records, room)?;
+    exported(rt, t.start, channel, &records, room, false)
 }
 
 // Reads a line as the row with a number.
 fn row(rt: &impl Print, s: &[u8], version: u64, k: u64) -> io::Result<()> {
-    let a = row_reader::read_row(s, version, k);
-    match a {
-        Reading::Is(r) => fields(rt, r),
-        Reading::Not => none(rt),
+    match row_reader::read_row(s, version, k) {
+        Some(r) => fields(rt, r),
+        None => none(rt),
     }
 }
 
 // Tries a case of reading, if the word is one. What is read stands behind a colon and a blank.
-pub(crate) fn tried(rt: &impl Print, word: u64, line: &[u8]) -> io::Result<bool> {
+pub(crate) fn tried(rt: &impl Print, word: &[u8], line: &[u8]) -> io::Result<bool> {
     let a = numbers(before(line, b':'), 2, 2);
     let s = behind(behind(line, b':'), b' ');
     match word {
-        READ => {
-            read(rt, s, a[0] as usize)?;
-            Ok(true)
-        }
-        CUT => {
-            read(rt, front(s, a[1] as usize), a[0] as usize)?;
-            Ok(true)
-        }
-        AGAIN => {
-            again(rt, s, a[0] as usize, a[1])?;
-            Ok(true)
-        }
-        ROW => {
-            row(rt, s, a[0], a[1])?;
-            Ok(true)
-        }
-        _ => Ok(false),
+        b"read" => read(rt, s, a[0] as usize)?,
+        b"cut" => read(rt, front(s, a[1] as usize), a[0] as usize)?,
+        b"again" => again(rt, s, a[0] as usize, a[1])?,
+        b"row" => row(rt, s, a[0], a[1])?,
+        _ => return Ok(false),
     }
+    Ok(true)
 }

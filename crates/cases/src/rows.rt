@@ -5,15 +5,12 @@ ghost use Rattle.record.specs.Record.{WellFormed};
 ghost use Rattle.row.specs.Versions.{Carries};
 
 use crate::packing::record_of;
-use digits::{Letters, put_decimal};
+use digits::{Kept, Letters, Pairs};
 use record::Record;
 use row::carries;
 use row_writer::{put_row, row_length};
 use std::io;
 use testing::{none, number, numbers, output};
-
-// The word `put`, in its letters.
-const PUT: u64 = 0x707574;
 
 fn line_space() -> [u8; 256]
     ensures { 256 ≡ length result }
@@ -28,12 +25,10 @@ fn put(rt: &impl Print, version: u64, k: u64, r: Record) -> io::Result<()>
     let size = row_length(version, k, r);
     if size <= 250 {
         let mut out = line_space();
-        let pairs = digits::pairs(Letters::Capital);
-        let mut tens = [0u8; 20];
-        let mut seconds = [0u8; 20];
-        let t = put_decimal(&mut tens, 0, k / 10);
-        let u = put_decimal(&mut seconds, 0, r.offset / 1000 / 1000);
-        let end = put_row(&mut out, 2, version, k, r, &tens, t, &seconds, u, &pairs);
+        let pairs = Pairs::new(Letters::Capital);
+        let tens = Kept::new(k / 10);
+        let seconds = Kept::new(r.offset / 1000 / 1000);
+        let end = put_row(&mut out, 2, version, k, r, &tens, &seconds, &pairs);
         number(rt, size as u64)?;
         number(rt, end as u64)?;
         output(rt, &out, end)?;
@@ -59,11 +54,11 @@ fn row(rt: &impl Print, version: u64, k: u64, r: Record) -> io::Result<()> {
 }
 
 // Tries a case of writing one row, if the word is one.
-pub(crate) fn tried(rt: &impl Print, word: u64, line: &[u8]) -> io::Result<bool> {
-    if word != PUT {
-        return Ok(false);
-    }
+pub(crate) fn tried(rt: &impl Print, word: &[u8], line: &[u8]) -> io::Result<bool> {
     let a = numbers(line, 2, 2);
-    row(rt, a[0], a[1], record_of(numbers(line, 6, 2)))?;
+    match word {
+        b"put" => row(rt, a[0], a[1], record_of(numbers(line, 6, 2)))?,
+        _ => return Ok(false),
+    }
     Ok(true)
 }

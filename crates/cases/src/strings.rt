@@ -1,24 +1,14 @@
 // Cases of numbers as digit strings.
 use digits::{
-    Letters, Number, decimal_length, put_decimal, put_hex, put_padded, read_decimal, read_hex,
-    read_padded,
+    Letters, decimal_length, put_decimal, put_hex, put_padded, read_decimal, read_hex, read_padded,
 };
 use std::io;
 use testing::{behind, none, number, numbers, output};
 
-// The words `decimal`, `padded`, `hex` and `digits`, in their letters.
-const DECIMAL: u64 = 0x646563696D616C;
-
-const PADDED: u64 = 0x706164646564;
-
-const HEX: u64 = 0x686578;
-
-const DIGITS: u64 = 0x646967697473;
-
-fn answer(rt: &impl Print, n: Number) -> io::Result<()> {
+fn answer(rt: &impl Print, n: Option<u64>) -> io::Result<()> {
     match n {
-        Number::Value(v) => number(rt, v),
-        Number::Not => none(rt),
+        Some(v) => number(rt, v),
+        None => none(rt),
     }
 }
 
@@ -40,26 +30,17 @@ fn digits(rt: &impl Print, n: u64, w: usize) -> io::Result<()> {
 }
 
 // Tries a case of digits, if the word is one. What is read stands behind a colon and a blank.
-pub(crate) fn tried(rt: &impl Print, word: u64, line: &[u8]) -> io::Result<bool> {
+pub(crate) fn tried(rt: &impl Print, word: &[u8], line: &[u8]) -> io::Result<bool> {
     let s = behind(behind(line, b':'), b' ');
     match word {
-        DECIMAL => {
-            answer(rt, read_decimal(s))?;
-            Ok(true)
-        }
-        PADDED => {
-            answer(rt, read_padded(s))?;
-            Ok(true)
-        }
-        HEX => {
-            answer(rt, read_hex(s))?;
-            Ok(true)
-        }
-        DIGITS => {
+        b"decimal" => answer(rt, read_decimal(s))?,
+        b"padded" => answer(rt, read_padded(s))?,
+        b"hex" => answer(rt, read_hex(s))?,
+        b"digits" => {
             let a = numbers(line, 2, 2);
             digits(rt, a[0], a[1] as usize)?;
-            Ok(true)
         }
-        _ => Ok(false),
+        _ => return Ok(false),
     }
+    Ok(true)
 }

@@ -1,18 +1,9 @@
 // Cases of time: starts, day fractions, dates and stamps.
 use base::OFFSET_LIMIT;
 use clock::{CalendarDay, DayTime, START_LIMIT, date_of, day_fraction, stamp_of, start_of};
-use digits::{Number, read_padded};
+use digits::read_padded;
 use std::io;
 use testing::{before, behind, none, number, numbers};
-
-// The words `start`, `fraction`, `date` and `stamp`, in their letters.
-const START: u64 = 0x7374617274;
-
-const FRACTION: u64 = 0x6672616374696F6E;
-
-const DATE: u64 = 0x64617465;
-
-const STAMP: u64 = 0x7374616D70;
 
 // The start of a day count and of the digits of a fraction.
 fn start(rt: &impl Print, days: u64, fraction: &[u8]) -> io::Result<()> {
@@ -25,7 +16,7 @@ fn start(rt: &impl Print, days: u64, fraction: &[u8]) -> io::Result<()> {
     if 10 < fraction.len() {
         return none(rt);
     }
-    let Number::Value(parts) = read_padded(fraction) else {
+    let Some(parts) = read_padded(fraction) else {
         return none(rt);
     };
     number(rt, start_of(days, parts, fraction.len() as u64))
@@ -75,25 +66,14 @@ fn stamp(rt: &impl Print, start: u64, offset: u64) -> io::Result<()> {
 }
 
 // Tries a case of time, if the word is one. The digits of a fraction stand behind a colon and a blank.
-pub(crate) fn tried(rt: &impl Print, word: u64, line: &[u8]) -> io::Result<bool> {
+pub(crate) fn tried(rt: &impl Print, word: &[u8], line: &[u8]) -> io::Result<bool> {
     let a = numbers(before(line, b':'), 2, 2);
     match word {
-        START => {
-            start(rt, a[0], behind(behind(line, b':'), b' '))?;
-            Ok(true)
-        }
-        FRACTION => {
-            fraction(rt, a[0])?;
-            Ok(true)
-        }
-        DATE => {
-            date(rt, a[0])?;
-            Ok(true)
-        }
-        STAMP => {
-            stamp(rt, a[0], a[1])?;
-            Ok(true)
-        }
-        _ => Ok(false),
+        b"start" => start(rt, a[0], behind(behind(line, b':'), b' '))?,
+        b"fraction" => fraction(rt, a[0])?,
+        b"date" => date(rt, a[0])?,
+        b"stamp" => stamp(rt, a[0], a[1])?,
+        _ => return Ok(false),
     }
+    Ok(true)
 }

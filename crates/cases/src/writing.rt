@@ -7,12 +7,6 @@ use crate::returned::read_lines;
 use ascii::Exported;
 use std::io;
 use testing::{before, behind, front, number, numbers, output};
-use trace_writer::Written;
-
-// The words `write` and `export`, in their letters.
-const WRITE: u64 = 0x7772697465;
-
-const EXPORT: u64 = 0x6578706F7274;
 
 pub(crate) fn page() -> [u8; 700]
     ensures { 700 ≡ length result }
@@ -34,26 +28,25 @@ fn write_into(
     if out.len() < room {
         return Ok(());
     }
-    let w = trace_writer::write(version, start, first, records, &mut out[0..room]);
-    match w {
-        Written::Done { bytes } => {
+    match trace_writer::write(version, start, first, records, &mut out[0..room]) {
+        Ok(bytes) => {
             number(rt, 0)?;
             number(rt, 0)?;
             number(rt, bytes as u64)?;
             output(rt, out, bytes)?;
             read(rt, front(out, bytes), 240)
         }
-        Written::Refused { number: n, place } => refused(rt, n, place, out),
+        Err(e) => refused(rt, e, out),
     }
 }
 
-fn lines(rt: &impl Print, bytes: usize, lines: u64, left_out: u64, out: &[u8]) -> io::Result<()> {
+fn lines(rt: &impl Print, e: Exported, out: &[u8]) -> io::Result<()> {
     number(rt, 0)?;
     number(rt, 0)?;
-    number(rt, bytes as u64)?;
-    number(rt, lines)?;
-    number(rt, left_out)?;
-    output(rt, out, bytes)
+    number(rt, e.bytes as u64)?;
+    number(rt, e.lines)?;
+    number(rt, e.left_out)?;
+    output(rt, out, e.bytes)
 }
 
 // Exports records, bus 0 as a channel, into the first `room` bytes of a page: number, place, bytes, lines, records left out and text; and, if it is
@@ -70,20 +63,15 @@ fn export_into(
     if out.len() < room {
         return Ok(());
     }
-    let e = ascii::export(start, channel, records, &mut out[0..room]);
-    match e {
-        Exported::Done {
-            bytes,
-            lines: given,
-            left_out,
-        } => {
-            lines(rt, bytes, given, left_out, out)?;
+    match ascii::export(start, channel, records, &mut out[0..room]) {
+        Ok(e) => {
+            lines(rt, e, out)?;
             if back {
-                read_lines(rt, front(out, bytes), 240)?;
+                read_lines(rt, front(out, e.bytes), 240)?;
             }
             Ok(())
         }
-        Exported::Refused { number: n, place } => refused(rt, n, place, out),
+        Err(e) => refused(rt, e, out),
     }
 }
 
@@ -138,18 +126,13 @@ fn export(rt: &impl Print, a: [u64; 9], s: &[u8]) -> io::Result<()> {
 }
 
 // Tries a case of several records, if the word is one. The records stand behind a colon and a blank.
-pub(crate) fn tried(rt: &impl Print, word: u64, line: &[u8]) -> io::Result<bool> {
+pub(crate) fn tried(rt: &impl Print, word: &[u8], line: &[u8]) -> io::Result<bool> {
     let a = numbers(before(line, b':'), 2, 2);
     let s = behind(behind(line, b':'), b' ');
     match word {
-        WRITE => {
-            write(rt, a, s)?;
-            Ok(true)
-        }
-        EXPORT => {
-            export(rt, a, s)?;
-            Ok(true)
-        }
-        _ => Ok(false),
+        b"write" => write(rt, a, s)?,
+        b"export" => export(rt, a, s)?,
+        _ => return Ok(false),
     }
+    Ok(true)
 }

@@ -1,9 +1,9 @@
 -- Starts and day fractions: each input has one, more digits say the same, and reading back what was written.
-use Prim.Native.Nat.{ℕ, ◌+◌, ◌*◌, ◌/◌, ◌^◌, ◌≤◌, ◌<◌}
-use mathlib.Core.Path.{◌≡◌}
-use native.Mathlib.Nat.{pow-suc, pow-le-pow_right, lt_of_lt_of_le, mul-le-mul_right, mul-lt-mul_of_pos_right}
-use native.Mathlib.Numerals.{add-one}
+use Prim.Native.Nat.{ℕ, ◌+◌, ◌*◌, ◌-◌, ◌/◌, ◌^◌, ◌≤◌, ◌<◌}
+use mathlib.Core.Path.{◌≡◌, ap, sym, ◌∙◌}
+use native.Mathlib.Nat.{pow-le-pow_right, mul_assoc, mul-le-mul_right, mul-lt-mul_of_pos_right}
 use native.Mathlib.Omega.{arith}
+use lib.Pow.{pow-add}
 use Rattle.clock.specs.Start.{day_ms, Start, DayFraction}
 use Rattle.clock.proofs.Quotients.{one_bracket, some_bracket}
 
@@ -54,11 +54,10 @@ same_fraction {days} {f} {g} {ms} k e a =
     let h = mul-lt-mul_of_pos_right a.high (ten_pos k) in
     record { low = omega arith; high = omega arith }
 
--- A fraction of fewer than ten digits leaves room for one digit more.
-pub below_ten : {f d : ℕ} → f < 10 ^ d → d < 10 → f < 10 ^ 9
-below_ten {f} {d} h l =
-    let p : d ≤ 9 = omega arith in
-    lt_of_lt_of_le h (pow-le-pow_right (omega arith) p)
-
-pub one_digit_more : (f x k d : ℕ) → f * 10 ^ k ≡ x * 10 ^ d → f * 10 * 10 ^ k ≡ x * 10 ^ (d + 1)
-one_digit_more f x k d e = rw (add-one, pow-suc 10 d) (omega arith)
+-- With a digit 0 for each of the ten that is missing.
+pub with_zeros : (f d : ℕ) → d ≤ 10 → f < 10 ^ d → (f * 10 ^ (10 - d) * 10 ^ d ≡ f * 10 ^ 10) × (f * 10 ^ (10 - d) < 10 ^ 10)
+with_zeros f d h l =
+    let k = 10 - d in
+    let e : k + d ≡ 10 = omega arith in
+    let p : 10 ^ k * 10 ^ d ≡ 10 ^ 10 = sym (pow-add 10 k d) ∙ ap (λ (n : ℕ). 10 ^ n) e in
+    (mul_assoc f (10 ^ k) (10 ^ d) ∙ ap (λ (n : ℕ). f * n) p, omega (arith, p, mul-lt-mul_of_pos_right l (ten_pos k)))

@@ -3,11 +3,12 @@
 
 ghost use Rattle.std.specs.Prelude.{◌≡◌, ◌+◌, ◌*◌, ◌-◌, ◌^◌, ◌≤◌, ◌<◌};
 ghost use Rattle.base.specs.Limits.{offset_limit};
+ghost use Rattle.base.specs.inner.Answers.{Answers};
 ghost use Rattle.base.specs.inner.Decides.{Decides};
 ghost use Rattle.clock.specs.Start.{day_ms, start_limit, Start, DayFraction};
 ghost use Rattle.clock.specs.Date.{leap, month_days, before, before_year, Date};
 ghost use Rattle.clock.specs.Stamp.{Time, Stamp};
-ghost use Rattle.clock.specs.inner.Days.{DayOr};
+ghost use Rattle.clock.specs.inner.Days.{DayWithin};
 
 // The last start that a trace may have, in milliseconds.
 pub const START_LIMIT: u64 = 8_639_999_999_999;
@@ -17,9 +18,6 @@ pub const DAY_MS: u64 = 86_400_000;
 
 // The last day that the stamp of a line may lie on where it is read: 13.10.2173.
 pub const LAST_DAY: u64 = 99_999;
-
-// What `day_of` gives for no day.
-pub const NO_DAY: u64 = 100_000;
 
 // A day of the Gregorian calendar: day and month count from 1.
 #[derive(Clone, Copy)]
@@ -64,13 +62,7 @@ fn ten_digits(fraction: u64, digits: u64) -> u64
     requires { (digits ≤ 10) × (fraction < 10 ^ digits) }
     ensures { (result * 10 ^ digits ≡ fraction * 10 ^ 10) × (result < 10 ^ 10) }
 {
-    let mut f = fraction;
-    let mut d = digits;
-    while d < 10 {
-        f *= 10;
-        d += 1;
-    }
-    f
+    fraction * 10u64.pow(10 - digits as u32)
 }
 
 // The start, in milliseconds, that a day count and a fraction of a day give.
@@ -96,12 +88,6 @@ const DAYS_BEFORE: [[u16; 12]; 2] = [
     [0, 31, 60, 91, 121, 152, 182, 213, 244, 274, 305, 335],
 ];
 
-fn wide(x: u16) -> u64
-    ensures { result ≡ x }
-{
-    x as u64
-}
-
 // The days of a year before a month: leap is 0 for a common year and 1 for a leap year, the month counts from 0.
 fn days_before(leap: u64, month: u64) -> u64
     requires { (leap < 2) × (month < 12) }
@@ -109,23 +95,14 @@ fn days_before(leap: u64, month: u64) -> u64
 {
     let i = leap as usize;
     let j = month as usize;
-    wide(DAYS_BEFORE[i][j])
+    u64::from(DAYS_BEFORE[i][j])
 }
 
 // 1 for a leap year, 0 for a common one.
 fn leap_of(year: u64) -> u64
     ensures { result ≡ leap year }
 {
-    if year % 4 != 0 {
-        return 0;
-    }
-    if year % 100 != 0 {
-        return 1;
-    }
-    if year % 400 != 0 {
-        return 0;
-    }
-    1
+    u64::from(year % 4 == 0 && (year % 100 != 0 || year % 400 == 0))
 }
 
 // The days from 1899 on before a year: 365 for each year, and 1 for each leap year, of which 460 lie before 1899.
@@ -208,56 +185,32 @@ fn in_month(leap: u64, month: u64, day: u64) -> bool
     requires { (leap < 2) × (month < 12) }
     ensures { Decides (day ≤ month_days leap month) result }
 {
-    if day <= 28 {
-        return true;
-    }
-    if month_days(leap, month) < day {
-        return false;
-    }
-    true
+    day <= 28 || day <= month_days(leap, month)
 }
 
 // What `day_of` gives in a month of the years from 1899 to 2173. The count is from the beginning of 1899, of which 363
 // days lie before day 0.
-fn day_within(d: CalendarDay) -> u64
+fn day_within(d: CalendarDay) -> Option<u64>
     requires { (1899 ≤ d.year) × (d.year ≤ 2173) × (1 ≤ d.month) × (d.month ≤ 12) }
-    ensures { DayOr d result }
+    ensures { Answers (DayWithin d) result }
 {
     let leap = leap_of(d.year);
     let month = d.month - 1;
-    if d.day < 1 {
-        return NO_DAY;
-    }
-    if !in_month(leap, month, d.day) {
-        return NO_DAY;
+    if d.day < 1 || !in_month(leap, month, d.day) {
+        return None;
     }
     let count = days_before_year(d.year) + days_before(leap, month) + (d.day - 1);
-    if count < 363 {
-        return NO_DAY;
-    }
-    let days = count - 363;
-    if days > LAST_DAY {
-        return NO_DAY;
-    }
-    days
+    let days = count.checked_sub(363)?;
+    (days <= LAST_DAY).then_some(days)
 }
 
-// The day that a date is, counted from 30.12.1899, up to day 99,999; or NO_DAY: there is no such date, or it lies before
-// or behind. Day, month and year are any numbers, so that the ranges are tested before anything is counted.
-pub fn day_of(d: CalendarDay) -> u64
-    ensures { DayOr d result }
+// The day that a date is, counted from 30.12.1899, up to day 99,999; or none, where there is no such date or it lies before
+// or after. Day, month and year are any numbers, so that the ranges are tested before anything is counted.
+pub fn day_of(d: CalendarDay) -> Option<u64>
+    ensures { Answers (DayWithin d) result }
 {
-    if d.year < 1899 {
-        return NO_DAY;
-    }
-    if d.year > 2173 {
-        return NO_DAY;
-    }
-    if d.month < 1 {
-        return NO_DAY;
-    }
-    if d.month > 12 {
-        return NO_DAY;
+    if !(1899..=2173).contains(&d.year) || !(1..=12).contains(&d.month) {
+        return None;
     }
     day_within(d)
 }

@@ -1,4 +1,5 @@
 -- One answer; what each answer says; and with what the program lends the answer is a page.
+use Rattle.std.specs.Prelude.{Option, Some, None}
 use Prim.Native.Nat.{ℕ, ◌+◌, ◌*◌, ◌≤◌, ◌<◌}
 use mathlib.Core.Path.{◌≡◌, refl, ap, sym, ◌∙◌}
 use mathlib.Core.List.{List, [], ◌∷◌, ◌++◌}
@@ -16,8 +17,6 @@ use Rattle.trace.proofs.There.{read_writable}
 use Rattle.trace.proofs.Few.{rows_few}
 use Rattle.ascii.specs.Promise.{Exports}
 use Rattle.ascii.proofs.Exporting.{exports_one, export_most}
-use Rattle.convert.specs.declared.Printed.{Printed}
-use Rattle.convert.specs.declared.Printed.TheVariants as printed
 use Rattle.convert.specs.Promise.{input_limit, bench_channel, refusal_text, Prints, TooShort, ConvertPromise, records_room, page_room}
 use Rattle.convert.specs.Promise as promise
 use Rattle.convert.specs.inner.Page as on-page
@@ -45,7 +44,7 @@ pub count_one : {t u : Trace} {input : List ℕ} → Spells t input → Spells u
 count_one s z = ap (λ (t : Trace). length t.records) (one_trace s z)
 
 -- What is to be printed was put, if it had room; the records of a good trace had room.
-pub answered : {input text before after : List ℕ} {records : ℕ} {r : Printed} → Prints input text
+pub answered : {input text before after : List ℕ} {records : ℕ} {r : Option ℕ} → Prints input text
     → ((t : Trace) → length input ≤ input_limit → Spells t input → 20 * length t.records ≤ records) → PutOnPage text before r after
     → ConvertPromise input records before r after
 answered {input} {text} {before} {records = records} p held (on-page.put l e q) = promise.page p enough e q
@@ -56,17 +55,17 @@ answered {input} {text} {before} {records = records} p held (on-page.put l e q) 
 answered p held (on-page.no_room l e q) = promise.short (promise.no_page p l) e q
 
 -- The promise leaves one answer and one page only.
-pub one_convert : {input before x y : List ℕ} {records : ℕ} {a b : Printed} → ConvertPromise input records before a x
+pub one_convert : {input before x y : List ℕ} {records : ℕ} {a b : Option ℕ} → ConvertPromise input records before a x
     → ConvertPromise input records before b y → (a ≡ b) × (x ≡ y)
 one_convert {before = before} (promise.page p f e q) (promise.page o g d r) =
     let t = one_print p o in
-    (e ∙ ap (λ (s : List ℕ). printed.Page (length s)) t ∙ sym d, q ∙ ap (λ (s : List ℕ). s ++ drop (length s) before) t ∙ sym r)
+    (e ∙ ap (λ (s : List ℕ). Some (length s)) t ∙ sym d, q ∙ ap (λ (s : List ℕ). s ++ drop (length s) before) t ∙ sym r)
 one_convert (promise.page p f e q) (promise.short s d r) = absurd (f s)
 one_convert (promise.short s e q) (promise.page o g d r) = absurd (g s)
 one_convert (promise.short s e q) (promise.short z d r) = (e ∙ sym d, q ∙ sym r)
 
 -- A page: what is to be printed stands in its first bytes.
-pub paged : {input before after : List ℕ} {records n : ℕ} → ConvertPromise input records before (printed.Page n) after
+pub paged : {input before after : List ℕ} {records n : ℕ} → ConvertPromise input records before (Some n) after
     → (n ≤ length after) × Prints input (take n after)
 paged {before = before} {after = after} {n = n} (promise.page {text = text} p f e q) =
     let k : n ≡ length text = cc in
@@ -74,20 +73,20 @@ paged {before = before} {after = after} {n = n} (promise.page {text = text} p f 
 paged (promise.short s e q) = let z : ◌≡◌ {A = ℕ} 0 1 = cc in absurd (omega arith)
 
 -- Short: what is lent is too short, and the page is untouched.
-pub untouched : {input before after : List ℕ} {records : ℕ} → ConvertPromise input records before printed.Short after
+pub untouched : {input before after : List ℕ} {records : ℕ} → ConvertPromise input records before None after
     → TooShort input records (length before) × (after ≡ before)
 untouched (promise.page p f e q) = let z : ◌≡◌ {A = ℕ} 0 1 = cc in absurd (omega arith)
 untouched (promise.short s e q) = (s, q)
 
 -- A trace without lines whose records have room is no case of too little room, whatever the page: its answer is 0 bytes.
-pub empty_export : {input before after : List ℕ} {records : ℕ} {t : Trace} {r : Printed} → length input ≤ input_limit → Spells t input
+pub empty_export : {input before after : List ℕ} {records : ℕ} {t : Trace} {r : Option ℕ} → length input ≤ input_limit → Spells t input
     → 20 * length t.records ≤ records → Exports t.start bench_channel t.records [] → ConvertPromise input records before r after
-    → (r ≡ printed.Page 0) × (after ≡ before)
+    → (r ≡ Some 0) × (after ≡ before)
 empty_export h s l e p =
     one_convert p (answered (promise.export h s e) (λ u k z. omega (arith, count_one s z)) (on-page.put (omega arith) refl refl))
 
 -- And 0 bytes are the answer only where nothing is to be printed.
-pub empty_page : {input before after : List ℕ} {records : ℕ} → ConvertPromise input records before (printed.Page 0) after → Prints input []
+pub empty_page : {input before after : List ℕ} {records : ℕ} → ConvertPromise input records before (Some 0) after → Prints input []
 empty_page p = (paged p).1
 
 -- The place of a refusal is at most one more than the lines.
@@ -122,7 +121,7 @@ enough h k (promise.no_page (promise.refused {number = n} {place = o} l f) m) =
 enough h k (promise.no_page (promise.export l s e) m) = omega (arith, rows_few s, export_most (omega arith) (read_writable s).formed e)
 
 -- So with that the answer is a page, and on it what is to be printed, for every input.
-pub prints : {input before after : List ℕ} {records : ℕ} {r : Printed} → records_room ≤ records → page_room ≤ length before
-    → ConvertPromise input records before r after → (n : ℕ) × (r ≡ printed.Page n) × (n ≤ length after) × Prints input (take n after)
+pub prints : {input before after : List ℕ} {records : ℕ} {r : Option ℕ} → records_room ≤ records → page_room ≤ length before
+    → ConvertPromise input records before r after → (n : ℕ) × (r ≡ Some n) × (n ≤ length after) × Prints input (take n after)
 prints h k (promise.page {text = text} p f e q) = let w = paged (rw e at (promise.page p f e q)) in (length text, e, w.0, w.1)
 prints h k (promise.short s e q) = absurd (enough h k s)

@@ -1,4 +1,5 @@
 -- The ways through `convert`, over the promises of the functions that it calls.
+use Rattle.std.specs.Prelude.{Option, Some, None}
 use Prim.Native.Nat.{ℕ, ◌*◌, ◌≤◌, ◌<◌}
 use mathlib.Core.Path.{◌≡◌, refl, ap, ◌∙◌}
 use mathlib.Core.Logic.{◌≢◌}
@@ -12,31 +13,28 @@ use Rattle.records.proofs.Packing.{packed_length}
 use Rattle.records.proofs.Records.{packs_all_one}
 use Rattle.row.specs.Versions.{Version}
 use Rattle.row.proofs.EachVersion.{version_low}
-use Rattle.trace.specs.declared.Outcome.TheVariants as outcome
 use Rattle.trace.specs.Trace.{Trace, Spells, trace_of}
-use Rattle.trace.specs.Promise.{read_numbers, ReadPromise, RefusedAtLine}
+use Rattle.trace.specs.Promise.{read_refused, ReadPromise, RefusedAtLine}
+use Rattle.trace.specs.Promise as trace
 use Rattle.trace.specs.House.{Writable}
 use Rattle.trace.proofs.Answers.{not_refused, refused_numbers}
 use Rattle.trace.proofs.Numbers.{rows_numbered}
 use Rattle.trace.proofs.There.{read_writable}
 use Rattle.trace_writer.proofs.Again.{Read, read_done, read_held}
-use Rattle.ascii.specs.declared.Exported.TheVariants as exported
-use Rattle.ascii.specs.Promise.{export_numbers, Numbered, is_refused, Exports, ExportPromise}
+use Rattle.ascii.specs.Promise.{export_done, export_refused, Exports, ExportPromise}
 use Rattle.ascii.specs.Promise as ascii
 use Rattle.ascii.proofs.Answers.{never_stopped, accepted}
-use Rattle.convert.specs.declared.Printed.{Printed}
-use Rattle.convert.specs.declared.Printed.TheVariants as printed
 use Rattle.convert.specs.Promise.{input_limit, bench_channel, refusal_text, large, refused, export, TooShort, no_records, no_page, ConvertPromise, short}
 use Rattle.convert.proofs.Answers.{count_one, answered}
 
 -- The input is too long, or is refused: its line is put, if there is room for it.
-pub too_long : {input before after : List ℕ} {records : ℕ} {r : Printed} → input_limit < length input → PutOnPage (refusal_text 1 0) before r after
+pub too_long : {input before after : List ℕ} {records : ℕ} {r : Option ℕ} → input_limit < length input → PutOnPage (refusal_text 1 0) before r after
     → ConvertPromise input records before r after
 too_long h p = answered (large h) (λ t k s. omega arith) p
 
-pub refused_input : {n o : ℕ} {input before after : List ℕ} {records : ℕ} {r : Printed} → length input ≤ input_limit → RefusedAtLine input n o
-    → PutOnPage (refusal_text n o) before r after → ConvertPromise input records before r after
-refused_input h f p = answered (refused h f) (λ t k s. absurd (not_refused (omega arith) s f)) p
+pub refused_input : {n o m q : ℕ} {input before after : List ℕ} {records : ℕ} {r : Option ℕ} → length input ≤ input_limit → RefusedAtLine input n o
+    → n ≡ m → o ≡ q → PutOnPage (refusal_text m q) before r after → ConvertPromise input records before r after
+refused_input h f d e p = answered (refused h (rw (d, e) at f)) (λ t k s. absurd (not_refused (omega arith) s f)) p
 
 -- A refusal of the reader has no numbers of an accepted trace.
 not_done : {version : ℕ} → Version version → version ≡ 0 → ⊥
@@ -44,7 +42,7 @@ not_done v e = omega (arith, version_low v)
 
 -- The reader answers 8: the trace is good, and its records have no room.
 pub unheld : {n p page : ℕ} {input records x : List ℕ} → length input ≤ input_limit
-    → ReadPromise input records (read_numbers (outcome.Refused n p)) x → n ≡ 8 → TooShort input (length records) page
+    → ReadPromise input records (read_refused n p) x → n ≡ 8 → TooShort input (length records) page
 unheld h (ReadPromise.large l e q) d = absurd (omega arith)
 unheld h (ReadPromise.done {t = t} l s r e q) d = absurd (not_done (read_writable s).version (cc))
 unheld h (ReadPromise.no_room l s r e q) d = no_records h s r
@@ -52,7 +50,7 @@ unheld {n} h (ReadPromise.refused {n = m} l f e q) d = let g : n ≡ m = cc in a
 
 -- It answers any other number: the input is refused.
 pub unread : {n p : ℕ} {input records x : List ℕ} → length input ≤ input_limit
-    → ReadPromise input records (read_numbers (outcome.Refused n p)) x → n ≢ 8 → RefusedAtLine input n p
+    → ReadPromise input records (read_refused n p) x → n ≢ 8 → RefusedAtLine input n p
 unread h (ReadPromise.large l e q) d = absurd (omega arith)
 unread h (ReadPromise.done {t = t} l s r e q) d = absurd (not_done (read_writable s).version (cc))
 unread {n} h (ReadPromise.no_room l s r e q) d = let g : n ≡ 8 = cc in absurd (d g)
@@ -61,7 +59,7 @@ unread {n} {p} h (ReadPromise.refused {n = m} {p = o} l f e q) d =
     let k : p ≡ o = cc in
     rw (g, k) f
 
-module _ {version start first rows steps : ℕ} {input records x : List ℕ} (h : length input ≤ input_limit) (p : ReadPromise input records (read_numbers (outcome.Done version start rows steps first)) x) where
+module _ {version start first rows steps : ℕ} {input records x : List ℕ} (h : length input ≤ input_limit) (p : ReadPromise input records (trace.read_done version start rows steps first) x) where
   reading : Read version start first rows steps input records x
   reading = read_done p
 
@@ -86,17 +84,17 @@ module _ {version start first rows steps : ℕ} {input records x : List ℕ} (h 
   held_all t k s = omega (arith, reading.room, count_one reading.spelled s)
 
   -- Only the room on the page can be missing,
-  pub unwritten : {n q : ℕ} {page after : List ℕ} → Numbered (exported.Refused n q) → ExportPromise start bench_channel (take (20 * rows) x) page (export_numbers (exported.Refused n q)) after
-      → ConvertPromise input (length records) page printed.Short after
+  pub unwritten : {n q : ℕ} {page after : List ℕ} → n ≢ 0 → ExportPromise start bench_channel (take (20 * rows) x) page (export_refused n q) after
+      → ConvertPromise input (length records) page None after
   unwritten k (ascii.refused f e d) = absurd (never f)
   unwritten k (ascii.no_room g l e d) = short (no_page (export h reading.spelled (of_trace g)) l) refl d
-  unwritten {n} (is_refused k) (ascii.done g l e d) = let z : n ≡ 0 = cc in absurd (omega arith)
+  unwritten {n} k (ascii.done g l e d) = let z : n ≡ 0 = cc in absurd (k z)
 
   -- and else the export is printed.
   pub exported_all : {bytes lines others : ℕ} {page after : List ℕ}
-      → ExportPromise start bench_channel (take (20 * rows) x) page (export_numbers (exported.Done bytes lines others)) after
-      → ConvertPromise input (length records) page (printed.Page bytes) after
+      → ExportPromise start bench_channel (take (20 * rows) x) page (export_done bytes lines others) after
+      → ConvertPromise input (length records) page (Some bytes) after
   exported_all {bytes} p =
       let y = accepted p in
       let a : bytes ≡ length y.text = cc y.numbers in
-      answered (export h reading.spelled (of_trace y.given)) held_all (put y.room (ap printed.Page a) y.output)
+      answered (export h reading.spelled (of_trace y.given)) held_all (put y.room (ap Some a) y.output)

@@ -1,12 +1,10 @@
 -- What is printed for an input: the export of its trace, or one line with its refusal. In words: docs/FORMAT.md, section 12.
-use Rattle.std.specs.Prelude.{ℕ, ◌*◌, ◌≤◌, ◌<◌, ◌≡◌, List, [], ◌∷◌, ◌++◌, length, drop}
+use Rattle.std.specs.Prelude.{Option, Some, None, ℕ, ◌*◌, ◌≤◌, ◌<◌, ◌≡◌, List, [], ◌∷◌, ◌++◌, length, drop}
 use Rattle.base.specs.Text.{text, cr, lf}
 use Rattle.digits.specs.House.{decimal_text}
 use Rattle.trace.specs.Trace.{Trace, Spells}
 use Rattle.trace.specs.Promise.{RefusedAtLine}
 use Rattle.ascii.specs.Promise.{Exports}
-use Rattle.convert.specs.declared.Printed.{Printed}
-use Rattle.convert.specs.declared.Printed.TheVariants as printed
 
 -- The most bytes of an input.
 abbrev pub input_limit : ℕ
@@ -35,12 +33,12 @@ pub data TooShort (input : List ℕ) (records page : ℕ) : Type 0 where
   no_page : {text : List ℕ} → Prints input text → page < length text → TooShort input records page
 
 -- `convert` of an input, with so many bytes lent for records, and a page that held `before` and then holds `after`, gives the answer r.
-pub data ConvertPromise (input : List ℕ) (records : ℕ) (before : List ℕ) (r : Printed) (after : List ℕ) : Type 0 where
+pub data ConvertPromise (input : List ℕ) (records : ℕ) (before : List ℕ) (r : Option ℕ) (after : List ℕ) : Type 0 where
   -- what is to be printed, and behind it what was there
-  page : {text : List ℕ} → Prints input text → (TooShort input records (length before) → ⊥) → r ≡ printed.Page (length text)
+  page : {text : List ℕ} → Prints input text → (TooShort input records (length before) → ⊥) → r ≡ Some (length text)
       → after ≡ text ++ drop (length text) before → ConvertPromise input records before r after
   -- what is lent is too short, and the page is untouched
-  short : TooShort input records (length before) → r ≡ printed.Short → after ≡ before → ConvertPromise input records before r after
+  short : TooShort input records (length before) → r ≡ None → after ≡ before → ConvertPromise input records before r after
 
 -- What the program lends: room for the records and for the lines of every input. A row has at least 18 bytes, a record 20, a line at most 86.
 abbrev pub records_room : ℕ

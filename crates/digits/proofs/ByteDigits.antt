@@ -18,7 +18,7 @@ pub record PairsTo (c : Letters) (n : ℕ) (t : List ℕ) : Type 0 where
 pub no_pair : (c : Letters) (t : List ℕ) → PairsTo c 0 t
 no_pair c t = record { high = λ b h. absurd (omega arith); low = λ b h. absurd (omega arith) }
 
--- one turn: the digits x and y of the byte n are put behind those of the bytes before it
+-- one turn: the digits x and y of the byte n are put after those of the bytes before it
 module _ {c : Letters} {n : ℕ} {t : List ℕ} {x y : ℕ} (p : PairsTo c n t) (l : 2 * n + 1 < length t) (e : x ≡ glyph_of c (n / 16)) (f : y ≡ glyph_of c (n % 16)) where
   abbrev next : List ℕ
   next = set (set t (2 * n) x) (2 * n + 1) y

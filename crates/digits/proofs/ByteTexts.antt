@@ -1,8 +1,9 @@
--- The bytes of a word, each behind one blank: one more is one part more at the end, with the place value that the shift has.
-use Prim.Native.Nat.{ℕ, zero, suc, ◌+◌, ◌*◌, ◌-◌, ◌/◌, ◌%◌, ◌^◌, ◌≤◌, ◌<◌}
+-- The bytes of a word, each after one blank: one more is one part more at the end, with the place value that the shift has.
+use Prim.Native.Nat.{ℕ, zero, suc, ◌+◌, ◌*◌, ◌-◌, ◌/◌, ◌%◌, ◌^◌, ◌<◌}
 use mathlib.Core.Path.{◌≡◌, refl, ap, sym, ◌∙◌}
 use mathlib.Core.List.{List, [], ◌∷◌, ◌++◌, append-nil}
 use native.Mathlib.Nat.{add-zero, div-one, pow-zero, pow-suc, suc-mul, mul_comm, div-div-eq-div-mul}
+use native.Mathlib.Numerals.{add-one}
 use native.Mathlib.Omega.{arith}
 use lib.Pow.{pow-add, shl-shr}
 use lib.ListN.{length, get_or, length-append}
@@ -46,7 +47,7 @@ bits : (k : ℕ) → 256 ^ k ≡ 2 ^ (k * 8)
 bits zero = refl
 bits (suc k) = rw (pow-suc, suc-mul, pow-add, bits k)
 
--- the place value of a byte is that of the bits behind it
+-- the place value of a byte is that of the bits after it
 place : (n : ℕ) → n < 8 → 256 ^ 7 / 256 ^ n ≡ 2 ^ (56 - 8 * n)
 place n h =
     let e : 56 - 8 * n + n * 8 ≡ 56 = omega arith in
@@ -58,19 +59,14 @@ more : (x : Letters) (n sum : ℕ) → n < 8
 more x n sum h =
     rw (last, place n h, spaced_append, spaced_more, spaced_none, append-nil (hex_text x 2 (sum / 2 ^ (56 - 8 * n) % 256)))
 
--- Before byte i, counted from 1, stand those before it.
+-- Before byte n, counted from 0, stand those before it.
 
-pub put_none : (x : Letters) (at sum : ℕ) (l : List ℕ) → Wrote l l at at (spaced (byte_texts x (256 ^ 7) (1 - 1) sum))
+pub put_none : (x : Letters) (at sum : ℕ) (l : List ℕ) → Wrote l l at at (spaced (byte_texts x (256 ^ 7) 0 sum))
 put_none x at sum l = rw (bytes_none, spaced_none) (record { next = sym (add-zero at); stored = refl })
 
-pub put_more : {l a b : List ℕ} {at p q : ℕ} (x : Letters) (i sum : ℕ) → 1 ≤ i → i ≤ 8 → Wrote l a at p (spaced (byte_texts x (256 ^ 7) (i - 1) sum))
-    → Wrote a b p q (32 ∷ hex_text x 2 (sum / 2 ^ (64 - 8 * i) % 256)) → Wrote l b at q (spaced (byte_texts x (256 ^ 7) (i + 1 - 1) sum))
-put_more x zero sum h k w v = absurd (omega arith)
-put_more x (suc n) sum h k w v =
-    let e : suc n - 1 ≡ n = omega arith in
-    let f : suc n + 1 - 1 ≡ suc n = omega arith in
-    let g : 64 - 8 * suc n ≡ 56 - 8 * n = omega arith in
-    rw (f, more x n sum (omega arith)) (then (rw e at w) (rw g at v))
+pub put_more : {l a b : List ℕ} {at p q : ℕ} (x : Letters) (n sum : ℕ) → n < 8 → Wrote l a at p (spaced (byte_texts x (256 ^ 7) n sum))
+    → Wrote a b p q (32 ∷ hex_text x 2 (sum / 2 ^ (56 - 8 * n) % 256)) → Wrote l b at q (spaced (byte_texts x (256 ^ 7) (n + 1) sum))
+put_more x n sum h w v = rw (add-one, more x n sum h) (then w v)
 
 pub length_bytes : (x : Letters) (place n sum : ℕ) → length (spaced (byte_texts x place n sum)) ≡ 3 * n
 length_bytes x place zero sum = rw (bytes_none, spaced_none)

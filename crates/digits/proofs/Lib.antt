@@ -1,7 +1,7 @@
 pub mod ByteDigits
 pub mod ByteTexts
 pub mod House
-pub mod HexDigits
+pub mod HexTables
 pub mod Readers
 pub mod Strings
 pub mod Theorems

@@ -1,17 +1,13 @@
 -- What the readers' loops keep, in any base.
 use Prim.Native.Nat.{ℕ, ◌+◌, ◌*◌, ◌^◌, ◌≤◌, ◌<◌}
-use mathlib.Core.Path.{◌≡◌, refl, ap}
+use mathlib.Core.Path.{◌≡◌}
 use mathlib.Core.List.{List}
 use native.Mathlib.Numerals.{add-one}
 use native.Mathlib.Omega.{arith}
 use lib.ListN.{length, get_or, take}
 use lib.Seq.{take-suc, length-take-le, take-length}
-use Rattle.digits.specs.declared.Number.{Number}
-use Rattle.digits.specs.declared.Number.TheVariants.{Value, Not}
-use Rattle.digits.specs.inner.Answer.{Answers, DigitOr255, digit, none}
-use Rattle.digits.specs.Digits.{HexDigit, Digits}
-use Rattle.digits.specs.Digits.{none as empty}
-use Rattle.digits.proofs.Strings.{System, snoc, each, within, hex}
+use Rattle.digits.specs.Digits.{Digits, none}
+use Rattle.digits.proofs.Strings.{System, snoc, each, within}
 
 -- What a loop over at most `most` digits keeps: the bytes before place i are the digits of n.
 pub record Passed (D : ℕ → ℕ → Type 0) (b most : ℕ) (s : List ℕ) (n i : ℕ) : Type 0 where
@@ -21,7 +17,7 @@ pub record Passed (D : ℕ → ℕ → Type 0) (b most : ℕ) (s : List ℕ) (n 
 
 module _ {D : ℕ → ℕ → Type 0} {b most : ℕ} where
   pub none_passed : (s : List ℕ) → length s ≤ most → Passed D b most s 0 0
-  none_passed s h = record { within = omega arith; few = h; digits = empty }
+  none_passed s h = record { within = omega arith; few = h; digits = none }
 
   module _ {s : List ℕ} {n i : ℕ} (p : Passed D b most s n i) where
     pub one_passed : {d : ℕ} → i < length s → D (get_or s i 0) d → Passed D b most s (n * b + d) (i + 1)
@@ -42,28 +38,3 @@ module _ {D : ℕ → ℕ → Type 0} {b most : ℕ} where
     room y w z h l =
         let f = p.few in
         within y w z p.digits (rw (length-take-le i s p.within) (omega arith))
-
--- what the table's answer for a byte says, by its size
-pub is_digit : {x r : ℕ} → DigitOr255 x r → r < 255 → HexDigit x r
-is_digit (digit p) h = p
-is_digit (none f e) h = absurd (omega arith)
-
--- a byte that is a digit is answered with one
-pub small_answer : {x r d : ℕ} → DigitOr255 x r → HexDigit x d → r < 16
-small_answer (digit p) q = hex.small p
-small_answer (none f e) q = absurd (f _ q)
-
-pub no_digit : {x r : ℕ} → DigitOr255 x r → 16 ≤ r → (d : ℕ) → HexDigit x d → ⊥
-no_digit a h d q = let s = small_answer a q in omega arith
-
--- the callee's answer, carried to another relation
-pub same_answer : {P Q : ℕ → Type 0} (r : Number) → ((n : ℕ) → P n → Q n) → ((n : ℕ) → Q n → P n) → Answers P r → Answers Q r
-same_answer (Value n) to from a = to n a
-same_answer Not to from a = λ n q. a n (from n q)
-
--- An answer is the only one where at most one number has P.
-pub one_answer : {P : ℕ → Type 0} → ((n m : ℕ) → P n → P m → n ≡ m) → (a b : Number) → Answers P a → Answers P b → a ≡ b
-one_answer u (Value n) (Value m) p q = ap Value (u n m p q)
-one_answer u (Value n) Not p q = absurd (q n p)
-one_answer u Not (Value m) p q = absurd (p m q)
-one_answer u Not Not p q = refl

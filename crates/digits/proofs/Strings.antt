@@ -70,7 +70,7 @@ cased_small : {ten x d : ℕ} → CasedDigit ten x d → d < 16
 cased_small (figure p) = omega arith
 cased_small (letter p) = omega arith
 
--- letters of one case, or of two that do not overlap, and that stand behind the figures
+-- letters of one case, or of two that do not overlap, and that stand after the figures
 cased_one : {t u x d e : ℕ} → 58 ≤ t → 58 ≤ u → (t ≡ u) ⊎ ((t + 6 ≤ u) ⊎ (u + 6 ≤ t)) → CasedDigit t x d → CasedDigit u x e → d ≡ e
 cased_one h k o (figure p) (figure q) = omega arith
 cased_one h k o (figure p) (letter q) = omega arith

@@ -4,18 +4,19 @@ use mathlib.Core.Path.{◌≡◌, sym, ◌∙◌}
 use mathlib.Core.List.{List}
 use native.Mathlib.Omega.{arith}
 use lib.ListN.{length, get_or}
+use Rattle.std.specs.Prelude.{Option}
+use Rattle.base.specs.inner.Answers.{Answers}
+use Rattle.base.proofs.Answers.{one_answer}
 use Rattle.base.proofs.Lists.{same_entries}
 use Rattle.digits.specs.declared.Letters.{Letters}
 use Rattle.digits.specs.declared.Letters.TheVariants.{Capital, Small}
-use Rattle.digits.specs.declared.Number.{Number}
-use Rattle.digits.specs.inner.Answer.{Answers, DigitOr255, digit, none, ReadDecimal, ReadPadded, ReadHex}
+use Rattle.digits.specs.inner.Answer.{DigitOr255, digit, none, ReadDecimal, ReadPadded, ReadHex}
 use Rattle.digits.specs.inner.HexTable.{HexTable}
 use Rattle.digits.specs.Digits.{CasedDigit, HexDigit, capital, small, Digits, Decimal, Padded, Hex, CasedHex}
 use Rattle.digits.specs.Digits.{none as empty, more}
 use Rattle.digits.specs.House.{ten_of, hex_text, padded_text, decimal_text}
 use Rattle.digits.proofs.House.{few, padded_spells, padded_only, cased_spells, cased_only, decimal_spells, decimal_only}
-use Rattle.digits.proofs.HexDigits.{hex_of, hex_of_lem}
-use Rattle.digits.proofs.Readers.{one_answer}
+use Rattle.digits.proofs.HexTables.{hex_of, hex_of_lem}
 use Rattle.digits.proofs.Strings.{unique, below, decimal, hex}
 
 -- The number is the only one for its bytes.
@@ -73,14 +74,18 @@ hex_house c {w} {n} p = cased_only c p (cased_spells c w n (hex_below (cased_hex
 
 -- Each reader's promise leaves one answer only.
 
-pub one_read_decimal : (s : List ℕ) (a b : Number) → Answers (ReadDecimal s) a → Answers (ReadDecimal s) b → a ≡ b
+pub one_read_decimal : (s : List ℕ) (a b : Option ℕ) → Answers (ReadDecimal s) a → Answers (ReadDecimal s) b → a ≡ b
 one_read_decimal s = one_answer (λ n m p q. one_decimal p.spelled q.spelled)
 
-pub one_read_padded : (s : List ℕ) (a b : Number) → Answers (ReadPadded s) a → Answers (ReadPadded s) b → a ≡ b
+pub one_read_padded : (s : List ℕ) (a b : Option ℕ) → Answers (ReadPadded s) a → Answers (ReadPadded s) b → a ≡ b
 one_read_padded s = one_answer (λ n m p q. one_padded p.spelled q.spelled)
 
-pub one_read_hex : (s : List ℕ) (a b : Number) → Answers (ReadHex s) a → Answers (ReadHex s) b → a ≡ b
+pub one_read_hex : (s : List ℕ) (a b : Option ℕ) → Answers (ReadHex s) a → Answers (ReadHex s) b → a ≡ b
 one_read_hex s = one_answer (λ n m p q. one_hex p.spelled q.spelled)
+
+-- So does that of a byte's digit.
+pub one_hex_digit : (x : ℕ) (a b : Option ℕ) → Answers (HexDigit x) a → Answers (HexDigit x) b → a ≡ b
+one_hex_digit x = one_answer (λ n m p q. hex.one p q)
 
 pub one_digit : {x a b : ℕ} → DigitOr255 x a → DigitOr255 x b → a ≡ b
 one_digit (digit p) (digit q) = hex.one p q

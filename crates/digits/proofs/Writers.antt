@@ -10,7 +10,7 @@ use lib.Seq.{sets, set_comm, take_at}
 use Rattle.base.specs.inner.Wrote.{Wrote}
 use Rattle.base.proofs.Lists.{at_start}
 use Rattle.digits.specs.House.{fixed, decimal_text}
-use Rattle.digits.specs.inner.Kept.{Kept}
+use Rattle.digits.specs.inner.Kept.{KeepsDigits}
 use Rattle.digits.proofs.House.{fixed_zero, fixed_step, length_fixed, word_few}
 
 -- a byte before those that are put may be put first
@@ -50,5 +50,5 @@ pub put_first : {old new t : List ℕ} {e : ℕ} → Wrote old new 0 e t → len
 put_first {old} {t = t} {e = e} w h = ap (take e) (at_start w h) ∙ take_at t (drop (length t) old) e (omega (arith, w.next))
 
 -- So are the digits of a number of 64 bits that is put at the start of twenty bytes.
-pub kept_first : {n e : ℕ} {old new : List ℕ} → n < 2 ^ 64 → 20 ≤ length old → Wrote old new 0 e (decimal_text n) → Kept n new e
+pub kept_first : {n e : ℕ} {old new : List ℕ} → n < 2 ^ 64 → 20 ≤ length old → Wrote old new 0 e (decimal_text n) → KeepsDigits n e new
 kept_first {n} h l w = let f = word_few n h in record { text = put_first w (omega arith); few = omega (arith, w.next) }

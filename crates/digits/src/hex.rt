@@ -1,6 +1,8 @@
 // The one table of hexadecimal digits: where a byte becomes a digit, it is looked up here.
-ghost use Rattle.digits.specs.inner.Answer.{DigitOr255};
-ghost use Rattle.digits.specs.inner.HexTable.{HexTable};
+ghost use Rattle.std.specs.Prelude.{◌≡◌};
+ghost use Rattle.digits.specs.declared.hex.TheConstants.{HEX_DIGITS};
+ghost use Rattle.base.specs.inner.Answers.{Answers};
+ghost use Rattle.digits.specs.Digits.{HexDigit};
 
 // For each byte value the hexadecimal digit that it is, of either letter case, or 255. A row has the sixteen bytes from a multiple of sixteen on.
 #[rattlefmt::skip]
@@ -24,16 +26,22 @@ const HEX_DIGITS: [u8; 256] = [
 ];
 
 // The table, to be made once and lent: a constant is laid out on the stack wherever it is used.
-pub fn hex_table() -> [u8; 256]
-    ensures { HexTable result }
-{
-    HEX_DIGITS
+#[derive(Clone, Copy)]
+pub struct HexDigits {
+    pub table: [u8; 256],
+    ghost is: { table ≡ HEX_DIGITS },
 }
 
-// The hexadecimal digit that a byte is, or 255.
-pub fn hex_digit(b: u8, hex: &[u8; 256]) -> u8
-    requires { HexTable hex.now }
-    ensures { DigitOr255 b result }
-{
-    hex[b as usize]
+impl HexDigits {
+    pub fn new() -> Self {
+        HexDigits { table: HEX_DIGITS }
+    }
+
+    // The hexadecimal digit that a byte is.
+    pub fn digit(&self, b: u8) -> Option<u8>
+        ensures { Answers (HexDigit b) result }
+    {
+        let d = self.table[b as usize];
+        if d == 255 { None } else { Some(d) }
+    }
 }

@@ -2,8 +2,10 @@
 use Rattle.std.specs.Prelude.{ℕ, ◌+◌, ◌*◌, ◌≡◌, ◌≢◌, List, [], ◌∷◌, ◌++◌}
 use Prim.Native.Char.{code}
 use Rattle.digits.specs.Digits.{HexDigit}
+use Rattle.escapes.specs.declared.Begun.{Begun}
+use Rattle.escapes.specs.declared.Begun.TheVariants.{Nothing, Backslash, Hex, Digit}
 
--- `r`, `n` and `t` behind a backslash are CR, LF and tab, and any other byte is itself.
+-- `r`, `n` and `t` after a backslash are CR, LF and tab, and any other byte is itself.
 pub data Lettered (b x : ℕ) : Type 0 where
   return : b ≡ code "r" → x ≡ code "\r" → Lettered b x
   feed : b ≡ code "n" → x ≡ code "\n" → Lettered b x
@@ -16,14 +18,14 @@ pub data StandsFor (s : List ℕ) (x : ℕ) : Type 0 where
   letter : {b : ℕ} → s ≡ code "\\" ∷ b ∷ [] → b ≢ code "x" → Lettered b x → StandsFor s x
   byte : {a b d e : ℕ} → s ≡ code "\\" ∷ code "x" ∷ a ∷ b ∷ [] → HexDigit a d → HexDigit b e → x ≡ 16 * d + e → StandsFor s x
 
--- The number of what the bytes s begin.
-pub data Begun (n : ℕ) (s : List ℕ) : Type 0 where
-  nothing : n ≡ 0 → s ≡ [] → Begun n s
-  backslash : n ≡ 1 → s ≡ code "\\" ∷ [] → Begun n s
-  hex : n ≡ 2 → s ≡ code "\\" ∷ code "x" ∷ [] → Begun n s
-  digit : {a d : ℕ} → n ≡ 256 + 16 * d → s ≡ code "\\" ∷ code "x" ∷ a ∷ [] → HexDigit a d → Begun n s
+-- What the bytes s begin.
+abbrev pub Begins : Begun → List ℕ → Type 0
+Begins Nothing s = s ≡ []
+Begins Backslash s = s ≡ code "\\" ∷ []
+Begins Hex s = s ≡ code "\\" ∷ code "x" ∷ []
+Begins (Digit d) s = (a : ℕ) × (s ≡ code "\\" ∷ code "x" ∷ a ∷ []) × HexDigit a d
 
--- With the byte b behind the bytes s, r is the number of what is begun, or 0 where they stand for a byte.
-pub record After (s : List ℕ) (b r : ℕ) : Type 0 where
-  pub ended : (x : ℕ) → StandsFor (s ++ (b ∷ [])) x → r ≡ 0
-  pub begun : (n : ℕ) → Begun n (s ++ (b ∷ [])) → r ≡ n
+-- With the byte b after the bytes s, r is what is begun, or nothing where they stand for a byte.
+pub record After (s : List ℕ) (b : ℕ) (r : Begun) : Type 0 where
+  pub ended : (x : ℕ) → StandsFor (s ++ (b ∷ [])) x → r ≡ Nothing
+  pub begun : (n : Begun) → Begins n (s ++ (b ∷ [])) → r ≡ n

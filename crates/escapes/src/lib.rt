@@ -2,61 +2,50 @@
 #![tactic(auto)]
 
 ghost use Rattle.std.specs.Prelude.{◌≡◌, List, [], ◌∷◌, ◌++◌, ℕ};
-ghost use Rattle.escapes.specs.Escapes.{StandsFor, Begun, After};
+ghost use Rattle.escapes.specs.Escapes.{StandsFor, Begins, After};
 
-use base::wide;
-use digits::{hex_digit, hex_table};
+use digits::HexDigits;
 
-pub const NOTHING: u64 = 0;
+// What is begun by some bytes.
+#[derive(Clone, Copy, PartialEq, Eq)]
+pub enum Begun {
+    Nothing,
+    // By a backslash.
+    Backslash,
+    // By a backslash and an x.
+    Hex,
+    // By a backslash, an x and the first digit.
+    Digit(u8),
+}
 
-const BACKSLASH: u64 = 1;
-
-// A backslash and an x.
-const HEX: u64 = 2;
-
-// The same and a digit, which is added 16 times.
-const DIGIT: u64 = 256;
-
-// What is begun behind a byte.
-pub fn after(begun: u64, b: u8) -> u64
-    ensures { (s : List ℕ) → Begun begun s → After s b result }
+// What is begun after a byte. A byte that is no digit counts as 255.
+pub fn after(begun: Begun, b: u8) -> Begun
+    ensures { (s : List ℕ) → Begins begun s → After s b result }
 {
     match begun {
-        NOTHING => {
-            if b == b'\\' {
-                return BACKSLASH;
-            }
-            NOTHING
-        }
-        BACKSLASH => {
-            if b == b'x' {
-                return HEX;
-            }
-            NOTHING
-        }
-        HEX => {
-            let hex = hex_table();
-            DIGIT + 16 * wide(hex_digit(b, &hex))
-        }
-        _ => NOTHING,
+        Begun::Nothing if b == b'\\' => Begun::Backslash,
+        Begun::Backslash if b == b'x' => Begun::Hex,
+        Begun::Hex => Begun::Digit(HexDigits::new().digit(b).unwrap_or(255)),
+        Begun::Nothing | Begun::Backslash | Begun::Digit(_) => Begun::Nothing,
     }
 }
 
 // The byte that is ended by b.
-pub fn ended(begun: u64, b: u8) -> u8
-    ensures { (s : List ℕ) (x : ℕ) → Begun begun s → StandsFor (s ++ (b ∷ [])) x → result ≡ x }
+pub fn ended(begun: Begun, b: u8) -> u8
+    ensures { (s : List ℕ) (x : ℕ) → Begins begun s → StandsFor (s ++ (b ∷ [])) x → result ≡ x }
 {
     match begun {
-        NOTHING => b,
-        BACKSLASH => match b {
+        // After a backslash and an x, b is the first digit, and ends nothing.
+        Begun::Nothing | Begun::Hex => b,
+        Begun::Backslash => match b {
             b'r' => b'\r',
             b'n' => b'\n',
             b't' => b'\t',
             _ => b,
         },
-        _ => {
-            let hex = hex_table();
-            ((begun % 256 + wide(hex_digit(b, &hex))) % 256) as u8
+        Begun::Digit(d) => {
+            let low = HexDigits::new().digit(b).unwrap_or(255);
+            d.wrapping_mul(16).wrapping_add(low)
         }
     }
 }

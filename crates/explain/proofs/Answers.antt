@@ -1,13 +1,15 @@
 -- What the loop over the fields keeps, and the answers that it ends in.
 use Prim.Native.Nat.{ℕ, zero, suc, ◌+◌, ◌≤◌}
-use mathlib.Core.Path.{◌≡◌, refl}
+use Rattle.std.specs.Prelude.{Result, Ok, Err}
+use mathlib.Core.Path.{◌≡◌, refl, ap, sym}
 use mathlib.Core.Logic.{◌≢◌}
 use mathlib.Core.Bool.{Bool, true, false, true≢false}
-use mathlib.Core.Path.{sym}
 use mathlib.Core.List.{List, [], ◌∷◌}
 use native.Mathlib.Omega.{arith}
 use lib.ListN.{length}
 use lib.Seq.{slice}
+use Rattle.base.specs.declared.refusal.Refusal.{Refusal}
+use Rattle.base.specs.declared.refusal.Refusal.TheVariants as refusal
 use Rattle.record.specs.declared.Record.{Record}
 use Rattle.fields.specs.Parted.{NoBlank}
 use Rattle.lines.specs.Lines.{Inside, Comment}
@@ -27,7 +29,7 @@ use Rattle.fields.specs.Columns.{last_number}
 use Rattle.explain.specs.declared.Explained.{Explained}
 use Rattle.explain.specs.declared.Explained.TheVariants as explained
 use Rattle.explain.specs.Explain.{ExpectedFields, row}
-use Rattle.explain.specs.Promise.{ExplainPromise, explain_numbers, unexplained}
+use Rattle.explain.specs.Promise.{ExplainPromise, explain_refused, explain_numbers, unexplained}
 use Rattle.explain.specs.Promise.{wrong as promise-wrong, early as promise-early}
 use Rattle.explain.specs.inner.Steps.{Moves, moved, stuck, FieldsBefore, FoundIn}
 use Rattle.explain.proofs.Fields.{fields_next, found_wrong, found_early, found_row}
@@ -52,17 +54,17 @@ none_goes_on (stuck z u) _ = u
 -- The answers at the line's end and at a field.
 module _ {line : List ℕ} {from at a i : ℕ} {first p : Part} (x : Going line from first p at i) (g : Ran (Between 32 32) line at a) where
   pub end_row : (b : Bool) → b ≡ true → EndsRow p.stage p b → a ≡ length line
-      → (v k : ℕ) → FieldsBefore v k line (Continues first) from 1 → FoundIn v k line (explained.Refused 30)
+      → (v k : ℕ) → FieldsBefore v k line (Continues first) from 1 → FoundIn v k line (Err refusal.NothingToExplain)
   end_row true e (whole c u) n v k y = found_row (x.fields v k y) (blanks_ran g) n c
   end_row false e d n v k y = absurd (true≢false (sym e))
 
   pub end_early : (b : Bool) → b ≡ false → EndsRow p.stage p b → a ≡ length line
-      → (v k : ℕ) → FieldsBefore v k line (Continues first) from 1 → FoundIn v k line (explained.Early i)
+      → (v k : ℕ) → FieldsBefore v k line (Continues first) from 1 → FoundIn v k line (Ok (explained.Early i))
   end_early true e d n v k y = absurd (true≢false e)
   end_early false e (early u) n v k y = found_early (x.fields v k y) (blanks_ran g) n (can_end p x.good) u
 
   module _ {e : ℕ} (n : a ≢ length line) (h : Ran NoBlank line a e) {t : Step} (m : Moves (Continues p) (slice a e line) t) where
-    pub at_wrong : t.at ≡ 0 → (v k : ℕ) → FieldsBefore v k line (Continues first) from 1 → FoundIn v k line (explained.Wrong (i + 1))
+    pub at_wrong : t.at ≡ 0 → (v k : ℕ) → FieldsBefore v k line (Continues first) from 1 → FoundIn v k line (Ok (explained.Wrong (i + 1)))
     at_wrong z v k y = found_wrong (blanks_ran g) n h (x.fields v k y) (can_end p x.good) (none_goes_on m z)
 
     pub one_more_field : t.at ≢ 0 → i + 1 ≤ e → Going line from first t.part e (i + 1)
@@ -75,10 +77,10 @@ module _ {line : List ℕ} {from at a i : ℕ} {first p : Part} (x : Going line 
 
 -- The whole answer.
 module _ {line : List ℕ} {v k : ℕ} (is : Version v) (i : All Inside line) (n : Comment line → ⊥) (h : k ≤ last_number) where
-  pub promised : (x : Explained) → FoundIn v k line x → ExplainPromise line v k (explain_numbers x)
-  promised (explained.Wrong m) w = promise-wrong is (to_explain h i n (λ j r. wrong_no_row w)) w refl
-  promised (explained.Early m) w = promise-early is (to_explain h i n (λ j r. early_no_row w)) w refl
-  promised (explained.Refused m) (e, (j, r, x, q)) = unexplained is (row x q) (rw e refl)
+  pub promised : (x : Result Explained Refusal) → FoundIn v k line x → ExplainPromise line v k (explain_numbers x)
+  promised (Ok (explained.Wrong m)) w = promise-wrong is (to_explain h i n (λ j r. wrong_no_row w)) w refl
+  promised (Ok (explained.Early m)) w = promise-early is (to_explain h i n (λ j r. early_no_row w)) w refl
+  promised (Err reason) (e, (j, r, x, q)) = unexplained is (row x q) (ap explain_refused e)
 
 -- Where k is expected, some row can be ended: the one with that number, or, where any may stand there, that with number 1.
 

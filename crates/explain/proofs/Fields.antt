@@ -1,5 +1,6 @@
 -- From field to field: what a gap and a field add to the fields before them, and the answers at a field that no row goes on with and at the line's end.
 use Prim.Native.Nat.{ℕ, ◌+◌, ◌-◌, ◌≤◌, ◌<◌}
+use Rattle.std.specs.Prelude.{Err}
 use mathlib.Core.Path.{◌≡◌, refl, sym, ◌∙◌}
 use mathlib.Core.Logic.{◌≢◌}
 use mathlib.Core.List.{List, [], ◌∷◌, ◌++◌, append_assoc, append-nil}
@@ -7,6 +8,7 @@ use native.Mathlib.Omega.{arith}
 use native.Mathlib.Decide.{ℕ_discrete}
 use lib.ListN.{length, take, drop, length-append, take-append-drop, drop_of_length-le}
 use lib.Seq.{slice, drop-cons, length-slice, take_at}
+use Rattle.base.specs.declared.refusal.Refusal.TheVariants as refusal
 use Rattle.record.specs.declared.Record.{Record}
 use Rattle.fields.specs.Parted.{NoBlank, Parted, none}
 use Rattle.fields.specs.Runs.{All, empty, more, Stops, over, halt}
@@ -19,11 +21,10 @@ use Rattle.lines.proofs.Scans.{split, part}
 use Rattle.row.specs.declared.Step.{Step}
 use Rattle.row.specs.inner.Stages.{Continues}
 use Rattle.row.proofs.CanEnd.{CanEnd}
-use Rattle.explain.specs.declared.Explained.TheVariants as explained
 use Rattle.explain.specs.Explain.{ExpectedFields, BeginsRow, WrongField, EndedEarly}
 use Rattle.explain.specs.inner.Steps.{Field, Moves, moved, stuck, FieldsBefore, FoundIn}
 
--- A gap, and the field behind it.
+-- A gap, and the field after it.
 module _ {line : List ℕ} {at a e : ℕ} (g : Ran IsBlank line at a) (n : a ≢ length line) (h : Ran NoBlank line a e) where
   inside : a < length line
   inside = omega (arith, g.within)
@@ -64,7 +65,7 @@ module _ {line : List ℕ} {at a e : ℕ} (g : Ran IsBlank line at a) (n : a ≢
   pub lent : All Inside line → Field (take (e - a) (drop a line))
   lent i = rw (part h) (is_field i)
 
-  -- the fields from the gap on are it and those behind it
+  -- the fields from the gap on are it and those after it
   pub fields_here : {fs : List (List ℕ)} → Parted fs (drop e line) → Parted (slice a e line ∷ fs) (drop at line)
   fields_here p = rw (split g) (blanks g.all (first some h.all h.stops p (split h)))
 
@@ -123,7 +124,7 @@ module _ {v k : ℕ} {line : List ℕ} {at a i : ℕ} {C : List (List ℕ) → R
     none = λ r c. u r (x.onto [] r (rw append-nil c));
   }
 
-  pub found_row : {r : Record} → C [] r → FoundIn v k line (explained.Refused 30)
+  pub found_row : {r : Record} → C [] r → FoundIn v k line (Err refusal.NothingToExplain)
   found_row {r} c =
       let q : ExpectedFields v k r x.front = rw append-nil at (x.back [] r c) in
       (refl, (q.k, r, q.expected, record { fields = x.front; parted = ended; row = q.row }))

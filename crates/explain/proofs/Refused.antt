@@ -7,9 +7,8 @@ use native.Mathlib.Omega.{arith}
 use lib.ListN.{get_or}
 use Rattle.fields.specs.Columns.{last_number}
 use Rattle.row.specs.Versions.{Version}
-use Rattle.trace.specs.declared.Outcome.TheVariants as outcome
 use Rattle.trace.specs.Trace.{Trace, Spells}
-use Rattle.trace.specs.Promise.{EndedLines, ReadPromise, read_numbers, large, done, no_room, refused}
+use Rattle.trace.specs.Promise.{EndedLines, ReadPromise, read_refused, large, done, no_room, refused}
 use Rattle.trace.proofs.Exactly.{refused_fails}
 use Rattle.trace.proofs.Fails.{Stage, RightSoFar, at_first, at_second, at_later, next_number, WrongNext, no_row, Fails}
 use Rattle.explain.specs.Explain.{Unexplained, no_number}
@@ -43,7 +42,7 @@ pub record RefusedRow (text : List ℕ) (place : ℕ) : Type 0 where
   pub spelled : Spells trace front
   -- the line is explained, unless the last row number stands before it
   pub explains : (a : List ℕ) → next_number trace ≤ last_number → ExplainPromise line trace.version (next_number trace) a → get_or a 0 0 ≡ 0
-  -- behind that no line can be a row
+  -- after that no line can be a row
   pub full : (a : List ℕ) → last_number < next_number trace → ExplainPromise line trace.version (next_number trace) a → get_or a 0 0 ≡ 30
 
 row_refused : {text : List ℕ} {place : ℕ} → Fails text 7 place → RefusedRow text place
@@ -66,7 +65,7 @@ row_refused f = go f.stands f.stopped f.whole f.at
       full = λ x h q. refused_30 a.version.is (no_number h) q;
     }
 
-pub explains_refused : {text out a after : List ℕ} {place : ℕ} → ReadPromise text out a after → a ≡ read_numbers (outcome.Refused 7 place)
+pub explains_refused : {text out a after : List ℕ} {place : ℕ} → ReadPromise text out a after → a ≡ read_refused 7 place
     → RefusedRow text place
 explains_refused (large h e q) d = let z : ◌≡◌ {A = ℕ} 1 7 = cc (e, d) in absurd (omega arith)
 explains_refused (done h s r e q) d = let z : ◌≡◌ {A = ℕ} 0 7 = cc (e, d) in absurd (omega arith)

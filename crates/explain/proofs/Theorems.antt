@@ -1,5 +1,6 @@
 -- The promise leaves one answer only, and one of the two reasons is given where nothing is refused.
-use Prim.Native.Nat.{ℕ, ◌+◌, ◌-◌, ◌≤◌, ◌<◌}
+use Prim.Native.Nat.{ℕ, ◌-◌, ◌≤◌, ◌<◌}
+use Rattle.std.specs.Prelude.{Result, Ok, Err}
 use mathlib.Core.Path.{◌≡◌, ap, sym, ◌∙◌}
 use mathlib.Core.Logic.{◌⊎◌, inl, inr}
 use mathlib.Core.List.{List, [], ◌++◌, append_assoc, append-nil}
@@ -7,6 +8,8 @@ use native.Mathlib.Omega.{arith}
 use native.Mathlib.Decide.{dec_lt}
 use lib.ListN.{length, take, drop, take-append-drop}
 use lib.Seq.{take-take}
+use Rattle.base.specs.declared.refusal.Refusal.{Refusal}
+use Rattle.record.proofs.Refusals.{same_reason}
 use Rattle.record.specs.declared.Record.{Record}
 use Rattle.fields.specs.Columns.{last_number}
 use Rattle.fields.specs.Parted.{Parted}
@@ -18,7 +21,7 @@ use Rattle.row.specs.Versions.{Version}
 use Rattle.explain.specs.declared.Explained.{Explained}
 use Rattle.explain.specs.declared.Explained.TheVariants as explained
 use Rattle.explain.specs.Explain.{ExpectedFields, BeginsRow, WrongField, EndedEarly, Unexplained, no_number, no_line, row, comment}
-use Rattle.explain.specs.Promise.{ExplainPromise, explain_numbers, no_version, unexplained, wrong, early}
+use Rattle.explain.specs.Promise.{ExplainPromise, explain_wrong, explain_early, explain_numbers, no_version, unexplained, wrong, early}
 
 -- e is the number that is expected, and k that of a row.
 
@@ -74,7 +77,7 @@ to_explain h i c n (comment x) = c x
 
 -- One of the two reasons applies, and is given, where nothing is refused.
 pub one_applies : {line a : List ℕ} {v e : ℕ} → Version v → (Unexplained v e line → ⊥) → ExplainPromise line v e a
-    → ((i : ℕ) × WrongField v e line i × (a ≡ explain_numbers (explained.Wrong i))) ⊎ ((i : ℕ) × EndedEarly v e line i × (a ≡ explain_numbers (explained.Early i)))
+    → ((i : ℕ) × WrongField v e line i × (a ≡ explain_wrong i)) ⊎ ((i : ℕ) × EndedEarly v e line i × (a ≡ explain_early i))
 one_applies is n (no_version u e) = absurd (u is)
 one_applies is n (unexplained u x e) = absurd (n x)
 one_applies is n (wrong {i = i} u x w e) = inl (i, w, e)
@@ -92,25 +95,25 @@ one_explain (unexplained v u e) (wrong w n x d) = absurd (n u)
 one_explain (unexplained v u e) (early w n x d) = absurd (n u)
 one_explain (wrong v n w e) (no_version m d) = absurd (m v)
 one_explain (wrong v n w e) (unexplained x u d) = absurd (n u)
-one_explain (wrong v n w e) (wrong x m y d) = e ∙ ap (λ (i : ℕ). explain_numbers (explained.Wrong i)) (one_wrong w y) ∙ sym d
+one_explain (wrong v n w e) (wrong x m y d) = e ∙ ap explain_wrong (one_wrong w y) ∙ sym d
 one_explain (wrong v n w e) (early x m y d) = absurd (not_wrong_early w y)
 one_explain (early v n w e) (no_version m d) = absurd (m v)
 one_explain (early v n w e) (unexplained x u d) = absurd (n u)
 one_explain (early v n w e) (wrong x m y d) = absurd (not_wrong_early y w)
-one_explain (early v n w e) (early x m y d) = e ∙ ap (λ (i : ℕ). explain_numbers (explained.Early i)) (one_early w y) ∙ sym d
+one_explain (early v n w e) (early x m y d) = e ∙ ap explain_early (one_early w y) ∙ sym d
 
 -- Answers with the same numbers are the same.
-same_numbers : (x y : Explained) → explain_numbers x ≡ explain_numbers y → x ≡ y
-same_numbers (explained.Wrong i) (explained.Wrong j) e = let z : i ≡ j = cc in cc
-same_numbers (explained.Wrong i) (explained.Early j) e = let z : ◌≡◌ {A = ℕ} 1 2 = cc in absurd (omega arith)
-same_numbers (explained.Wrong i) (explained.Refused n) e = let z : ◌≡◌ {A = ℕ} 1 0 = cc in absurd (omega arith)
-same_numbers (explained.Early i) (explained.Wrong j) e = let z : ◌≡◌ {A = ℕ} 2 1 = cc in absurd (omega arith)
-same_numbers (explained.Early i) (explained.Early j) e = let z : i ≡ j = cc in cc
-same_numbers (explained.Early i) (explained.Refused n) e = let z : ◌≡◌ {A = ℕ} 2 0 = cc in absurd (omega arith)
-same_numbers (explained.Refused n) (explained.Wrong j) e = let z : ◌≡◌ {A = ℕ} 0 1 = cc in absurd (omega arith)
-same_numbers (explained.Refused n) (explained.Early j) e = let z : ◌≡◌ {A = ℕ} 0 2 = cc in absurd (omega arith)
-same_numbers (explained.Refused n) (explained.Refused m) e = let z : n ≡ m = cc in cc
+same_numbers : (x y : Result Explained Refusal) → explain_numbers x ≡ explain_numbers y → x ≡ y
+same_numbers (Ok (explained.Wrong i)) (Ok (explained.Wrong j)) e = let z : i ≡ j = cc in cc
+same_numbers (Ok (explained.Wrong i)) (Ok (explained.Early j)) e = let z : ◌≡◌ {A = ℕ} 1 2 = cc in absurd (omega arith)
+same_numbers (Ok (explained.Wrong i)) (Err r) e = let z : ◌≡◌ {A = ℕ} 1 0 = cc in absurd (omega arith)
+same_numbers (Ok (explained.Early i)) (Ok (explained.Wrong j)) e = let z : ◌≡◌ {A = ℕ} 2 1 = cc in absurd (omega arith)
+same_numbers (Ok (explained.Early i)) (Ok (explained.Early j)) e = let z : i ≡ j = cc in cc
+same_numbers (Ok (explained.Early i)) (Err r) e = let z : ◌≡◌ {A = ℕ} 2 0 = cc in absurd (omega arith)
+same_numbers (Err r) (Ok (explained.Wrong j)) e = let z : ◌≡◌ {A = ℕ} 0 1 = cc in absurd (omega arith)
+same_numbers (Err r) (Ok (explained.Early j)) e = let z : ◌≡◌ {A = ℕ} 0 2 = cc in absurd (omega arith)
+same_numbers (Err r) (Err q) e = ap Err (same_reason (cc))
 
-pub same_explained : {line : List ℕ} {v e : ℕ} (x y : Explained) → ExplainPromise line v e (explain_numbers x) → ExplainPromise line v e (explain_numbers y)
-    → x ≡ y
+pub same_explained : {line : List ℕ} {v e : ℕ} (x y : Result Explained Refusal) → ExplainPromise line v e (explain_numbers x)
+    → ExplainPromise line v e (explain_numbers y) → x ≡ y
 same_explained x y p q = same_numbers x y (one_explain p q)

@@ -28,7 +28,7 @@ use Rattle.row_reader.specs.inner.Answer.{NumberOf}
 use Rattle.explain.specs.Explain.{ExpectedFields}
 use Rattle.explain.specs.inner.Steps.{Field, Moves, moved, stuck}
 
--- A field, and CR behind it.
+-- A field, and CR after it.
 module _ {f w : List ℕ} (rest : List ℕ) (h : Field f) (e : w ≡ f ++ (13 ∷ rest)) where
   here : FieldAt f (13 ∷ rest) w
   here = record { bytes = e; some = h.some; solid = h.solid; stops = halt (λ s. s.end refl) }

@@ -4,7 +4,6 @@
 
 ghost use Rattle.std.specs.Prelude.{ℕ, ◌≤◌, ◌<◌, length};
 ghost use Rattle.base.specs.inner.Decides.{Decides};
-ghost use Rattle.digits.specs.inner.HexTable.{HexTable};
 ghost use Rattle.fields.specs.Columns.{last_number};
 ghost use Rattle.fields.specs.Parted.{NoBlank};
 ghost use Rattle.fields.specs.Runs.{All};
@@ -17,56 +16,48 @@ ghost use Rattle.explain.specs.Explain.{ExpectedFields};
 ghost use Rattle.explain.specs.Promise.{ExplainPromise, explain_numbers};
 ghost use Rattle.explain.specs.inner.Steps.{Field, Moves, FieldsBefore, FoundIn};
 
-use base::OFFSET_DIGITS;
-use digits::hex_table;
+use base::{OFFSET_DIGITS, Refusal};
+use digits::HexDigits;
 use fields::{LAST_NUMBER, WINDOW};
 use lines::{Remark, inside_end, remark_of, run_end};
 use row::{Part, Step, is_version};
 use row_reader::{expected_number, no_window, window};
 use stages::{complete, take_field, take_number};
 
-// The most bytes of a field that is no word: an offset, with its point and three digits behind it.
+// The most bytes of a field that is no word: an offset, with its point and three digits after it.
 const LONGEST: usize = OFFSET_DIGITS + 4;
 
 // So many bytes are a word, if they are anything.
 const WORD: usize = LONGEST + 1;
 
 // What is wrong with a line.
-#[derive(Clone, Copy)]
+#[derive(Clone, Copy, PartialEq, Eq)]
 pub enum Explained {
     // This field.
     Wrong(u64),
     // It ended early, after so many fields.
     Early(u64),
-    // Nothing can be said: the number of the refusal.
-    Refused(u64),
 }
 
 // Whether a line is a comment.
 fn is_comment(line: &[u8]) -> bool
     ensures { Decides (Comment line.now) result }
 {
-    let remark = remark_of(line);
-    match remark {
-        Remark::Plain => true,
-        Remark::Dollar => false,
-        Remark::Neither => false,
-    }
+    matches!(remark_of(line), Remark::Plain)
 }
 
 // Where the bytes that are no blanks end that stand from a place on.
+#[tactic(auto, using(lines::proofs::Scans::passing))]
 fn field_end(line: &[u8], at: usize) -> usize
     requires { at ≤ length line.now }
     ensures { Ran NoBlank line.now at result }
 {
-    let mut e = at;
-    while e < line.len() {
+    for e in at..line.len() {
         if line[e] == b' ' {
             return e;
         }
-        e += 1;
     }
-    e
+    line.len()
 }
 
 // What the first field makes of a row that is expected.
@@ -80,8 +71,8 @@ fn first(f: &[u8], version: u64, number: u64, w: &mut [u8; WINDOW]) -> Step
 }
 
 // What a later field makes of a state. One that is too long for any other is a word, and its first bytes are one, too.
-fn step(f: &[u8], p: Part, w: &mut [u8; WINDOW], hex: &[u8; 256]) -> Step
-    requires { Field f.now × Good p × HexTable hex.now }
+fn step(f: &[u8], p: Part, w: &mut [u8; WINDOW], hex: &HexDigits) -> Step
+    requires { Field f.now × Good p }
     ensures { Moves (Continues p) f.now result }
 {
     if f.len() <= LONGEST {
@@ -95,32 +86,33 @@ fn step(f: &[u8], p: Part, w: &mut [u8; WINDOW], hex: &[u8; 256]) -> Step
     take_field(w, 0, hex, p)
 }
 
-// Takes the fields from a place on, behind the first.
+// Takes the fields from a place on, after the first.
 fn explain_fields(
     line: &[u8],
     from: usize,
     start: Part,
     w: &mut [u8; WINDOW],
-    hex: &[u8; 256],
-) -> Explained
-    requires { All Inside line.now × (1 ≤ from) × (from ≤ length line.now) × Good start × HexTable hex.now }
+    hex: &HexDigits,
+) -> Result<Explained, Refusal>
+    requires { All Inside line.now × (1 ≤ from) × (from ≤ length line.now) × Good start }
     ensures { (v k : ℕ) → FieldsBefore v k line.now (Continues start) from 1 → FoundIn v k line.now result }
 {
     let mut p = start;
     let mut at = from;
     let mut i: u64 = 1;
+    // No `for`: the place moves on by what was read, and a line has no limit here.
     loop {
         let a = run_end(line, at, b' ', b' ');
         if a == line.len() {
             if complete(p) {
-                return Explained::Refused(30);
+                return Err(Refusal::NothingToExplain);
             }
-            return Explained::Early(i);
+            return Ok(Explained::Early(i));
         }
         let e = field_end(line, a);
         let t = step(&line[a..e], p, w, hex);
         if t.at == 0 {
-            return Explained::Wrong(i + 1);
+            return Ok(Explained::Wrong(i + 1));
         }
         let part = t.part;
         p = part;
@@ -130,43 +122,37 @@ fn explain_fields(
 }
 
 // Takes all fields, the row number first.
-fn explain_row(line: &[u8], version: u64, number: u64) -> Explained
+fn explain_row(line: &[u8], version: u64, number: u64) -> Result<Explained, Refusal>
     requires { All Inside line.now × Version version × (number ≤ last_number) }
     ensures { FoundIn version number line.now result }
 {
     let a = run_end(line, 0, b' ', b' ');
     if a == line.len() {
-        return Explained::Early(0);
+        return Ok(Explained::Early(0));
     }
     let e = field_end(line, a);
     if LONGEST < e - a {
-        return Explained::Wrong(1);
+        return Ok(Explained::Wrong(1));
     }
     let mut w = no_window();
     let t = first(&line[a..e], version, number, &mut w);
     if t.at == 0 {
-        return Explained::Wrong(1);
+        return Ok(Explained::Wrong(1));
     }
     let part = t.part;
-    let hex = hex_table();
+    let hex = HexDigits::new();
     explain_fields(line, e, part, &mut w, &hex)
 }
 
 // Explains a line that was to be the row with this number in this version, or with any number where that is 0.
-pub fn explain(line: &[u8], version: u64, number: u64) -> Explained
+pub fn explain(line: &[u8], version: u64, number: u64) -> Result<Explained, Refusal>
     ensures { ExplainPromise line.now version number (explain_numbers result) }
 {
     if !is_version(version) {
-        return Explained::Refused(21);
+        return Err(Refusal::UnknownVersion);
     }
-    if LAST_NUMBER < number {
-        return Explained::Refused(30);
-    }
-    if inside_end(line, 0) != line.len() {
-        return Explained::Refused(30);
-    }
-    if is_comment(line) {
-        return Explained::Refused(30);
+    if LAST_NUMBER < number || inside_end(line, 0) != line.len() || is_comment(line) {
+        return Err(Refusal::NothingToExplain);
     }
     explain_row(line, version, number)
 }

@@ -25,7 +25,7 @@ pub record Plain (b : ℕ) : Type 0 where
 pub plain_solid : (b : ℕ) → Plain b → Solid b
 plain_solid b p = record { blank = p.blank; end = p.end }
 
--- A byte behind the blank.
+-- A byte above the blank.
 pub visible : {b : ℕ} → 33 ≤ b → Plain b
 visible h = record { blank = λ e. omega arith; end = λ e. omega arith; feed = λ e. omega arith }
 
@@ -105,7 +105,7 @@ type_told (error e) = rw e refl
 pub type_one : {a b : ℕ} {f : List ℕ} → TypeField a f → TypeField b f → a ≡ b
 type_one p q = type_told p ∙ sym (type_told q)
 
--- A spelled-out text is plain where each of its bytes stands behind the blank, which antt computes.
+-- A spelled-out text is plain where each of its bytes is above the blank, which antt computes.
 pub text_plain : (f : List ℕ) → T (every (λ k x. leb 33 x) 0 f) → All Plain f
 text_plain f t = all_of f (λ k h. visible (leb→le 33 (get_or f k 0) (at (λ k x. leb 33 x) 0 f t k h)))
 

@@ -18,13 +18,13 @@ use Rattle.digits.proofs.Theorems.{decimal_few}
 use Rattle.fields.specs.declared.Scan.{Scan}
 use Rattle.fields.specs.Runs.{All, empty, more, Stops, over, halt}
 use Rattle.fields.specs.Columns.{NumberField, OffsetField, BusField}
-use Rattle.fields.specs.inner.Window.{Solid, Lined, FieldAt, Scanned, Takes, taken, HexField}
+use Rattle.fields.specs.inner.Window.{Solid, Lined, FieldAt, Scanned, Taken, HexField}
 use Rattle.fields.proofs.Runs.{all_map, all_append}
 use Rattle.fields.proofs.Window.{End, head_at, inside, next_lined, slice_drop, no_stop, field_of}
 use Rattle.fields.proofs.Digits.{below_zero}
 use Rattle.fields.proofs.Scans.{Some, digits_all, decimal_solid, hex_solid, scan_one}
 
--- A byte that is no CR has the line go on behind it.
+-- A byte that is no CR has the line go on after it.
 pub goes_on : (w : List ℕ) (e x : ℕ) → Lined (drop e w) → get_or w e 0 ≡ x → 13 < x → Lined (drop (e + 1) w)
 goes_on w e x l p q = next_lined w e l (λ z. omega arith)
 
@@ -42,10 +42,15 @@ ended w e l s = go (ℕ_discrete (get_or w e 0) 32) (ℕ_discrete (get_or w e 0)
     go (no p) (yes q) = inr q
     go (no p) (no q) = absurd (no_stop w e (inside w e l) (record { blank = p; end = q }) s)
 
--- The bytes up to a place, behind which the field ends, are taken as what they are.
+-- The bytes up to a place, where the field ends, are taken as what they are.
 pub accept : (P : ℕ → List ℕ → Type 0) (w : List ℕ) (at e v : ℕ) → at < e → e ≤ length w → All Solid (slice at e w) → End (get_or w e 0)
-    → P v (slice at e w) → Takes P w at (record { end = e; value = v })
-accept P w at e v l k a h p = taken (field_of w at e l k a h) (omega (arith, length-slice at e w k)) p
+    → P v (slice at e w) → Taken P w at (record { end = e; value = v })
+accept P w at e v l k a h p = record {
+  field = slice at e w;
+  there = field_of w at e l k a h;
+  place = omega (arith, length-slice at e w k);
+  has = p;
+}
 
 digit_stops : {D : ℕ → ℕ → Type 0} {u : List ℕ} → ((x : ℕ) → Some D x → Solid x) → Stops Solid u → Stops (Some D) u
 digit_stops s over = over
@@ -151,7 +156,7 @@ number_shape {w} {at} {k} {s} {f} {rest} c a p =
     }
 
 pub number_accept : {w : List ℕ} {at : ℕ} {s : Scan} → Scanned DecimalDigit 10 offset_digits w at s → get_or w at 0 ≢ 48 → NumberShape w at s
-    → Takes NumberField w at (record { end = s.end + 1; value = s.value })
+    → Taken NumberField w at (record { end = s.end + 1; value = s.value })
 number_accept {w} {at} {s} c z h =
     let l = inside w s.end c.lined in
     let m = h.some in
@@ -188,7 +193,7 @@ bus_shape {w} {at} {v} {s} {f} {rest} c a p =
     record { some = omega arith; high = omega arith; stop = ended w s.end c.lined (rw o.behind a.stops) }
 
 pub bus_accept : {w : List ℕ} {at : ℕ} {s : Scan} → Scanned DecimalDigit 10 offset_digits w at s → get_or w at 0 ≢ 48 → BusShape w at s
-    → Takes BusField w at (record { end = s.end; value = s.value })
+    → Taken BusField w at (record { end = s.end; value = s.value })
 bus_accept {w} {at} {s} c z h =
     let l = inside w s.end c.lined in
     accept BusField w at s.end s.value h.some (omega arith) (solid_digits c.digits) h.stop
@@ -209,13 +214,13 @@ hex_shape {w} {at} {v} {s} {f} {rest} c a p =
     record { some = omega arith; few = omega arith; stop = ended w s.end c.lined (rw o.behind a.stops) }
 
 pub hex_accept : {w : List ℕ} {at : ℕ} {s : Scan} → Scanned HexDigit 16 9 w at s → HexShape w at s
-    → Takes HexField w at (record { end = s.end; value = s.value })
+    → Taken HexField w at (record { end = s.end; value = s.value })
 hex_accept {w} {at} {s} c h =
     let l = inside w s.end c.lined in
     accept HexField w at s.end s.value h.some (omega arith) (all_map hex_solid (digits_all c.digits)) h.stop
     (record { spelled = record { digits = c.digits; width = refl }; short = omega (arith, h.few, length-slice at s.end w (omega arith)) })
 
--- The offset: a scan up to the point, and one behind it.
+-- The offset: a scan up to the point, and one after it.
 
 pub record OffsetTail (w : List ℕ) (digits : ℕ) (s t : Scan) : Type 0 where
   pub width : t.end ≡ s.end + 1 + digits
@@ -253,7 +258,7 @@ offset_shape {w} {at} {digits} {v} {s} {f} {rest} m c a p =
 pub offset_accept : {w : List ℕ} {at digits : ℕ} {s t : Scan} (v : ℕ) → Scanned DecimalDigit 10 offset_digits w at s
     → Scanned DecimalDigit 10 offset_digits w (s.end + 1) t → at < s.end → (at + 1 < s.end → get_or w at 0 ≢ 48)
     → get_or w s.end 0 ≡ 46 → OffsetTail w digits s t → v ≡ s.value * 1000 + t.value * 10 ^ (3 - digits)
-    → Takes (OffsetField digits) w at (record { end = t.end; value = v })
+    → Taken (OffsetField digits) w at (record { end = t.end; value = v })
 offset_accept {w} {at} {digits} {s} {t} v c d some z point h e =
     let l = inside w t.end d.lined in
     let f = d.from in

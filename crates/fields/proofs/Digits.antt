@@ -9,7 +9,7 @@ use Rattle.base.proofs.Lists.{slice_snoc}
 use Rattle.digits.specs.Digits.{DecimalDigit, Digits}
 use Rattle.digits.specs.Digits.{none as no-digits}
 use Rattle.digits.proofs.Strings.{System, snoc, within}
-use Rattle.fields.specs.inner.Window.{Solid, Lined, Scanned}
+use Rattle.fields.specs.inner.Window.{Solid, Lined}
 use Rattle.fields.proofs.Scans.{Some}
 use Rattle.fields.proofs.Window.{inside, next_lined}
 
@@ -41,14 +41,6 @@ module _ {D : ℕ → ℕ → Type 0} {b : ℕ} {most : ℕ} {w : List ℕ} {at 
   room y {n} {i} k z p h =
       let l = inside w i p.lined in
       within y k z p.digits (omega (arith, length-slice at i w (omega arith)))
-
-  -- what stops the scan is no digit
-  pub stopped : {n i : ℕ} → Passed D b most w at n i → ((d : ℕ) → D (get_or w i 0) d → ⊥) → Scanned D b most w at (record { end = i; value = n })
-  stopped p f = record { from = p.from; few = p.few; digits = p.digits; stop = λ h. f; lined = p.lined }
-
-  -- or the scan ends of itself
-  pub all_passed : {n i : ℕ} → Passed D b most w at n i → at + most ≤ i → Scanned D b most w at (record { end = i; value = n })
-  all_passed p l = record { from = p.from; few = p.few; digits = p.digits; stop = λ h. absurd (omega arith); lined = p.lined }
 
 -- A byte below `0` or above `9` is no decimal digit.
 pub below_zero : {x : ℕ} → x < 48 → (d : ℕ) → DecimalDigit x d → ⊥

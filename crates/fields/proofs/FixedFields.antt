@@ -1,14 +1,14 @@
--- Laws on fields of a fixed text or length: the bytes that were read one by one, and the byte behind them; and on words.
+-- Laws on fields of a fixed text or length: the bytes that were read one by one, and the byte after them; and on words.
 use Prim.Native.Nat.{ℕ, ◌+◌, ◌*◌, ◌^◌, ◌≤◌, ◌<◌}
 use mathlib.Core.Path.{◌≡◌, refl, ap, sym, ◌∙◌}
 use mathlib.Core.Logic.{◌≢◌, ◌⊎◌, inl, inr, ⊎_elim}
 use mathlib.Core.Bool.{Bool, true, false}
 use mathlib.Core.List.{List, [], ◌∷◌, ◌++◌, append_assoc}
+use Rattle.std.specs.Prelude.{Option, Some, None}
 use native.Mathlib.Nat.{add-zero}
 use native.Mathlib.Numerals.{add-one}
 use native.Mathlib.Omega.{arith}
 use native.Mathlib.Decide.{dec_lt}
-use borrow.Author.Tests.{eqb-true, eqb-false}
 use lib.Dec.{eqb}
 use lib.ListN.{length, get_or, drop, length-append, get_or-append}
 use lib.Seq.{slice, slice_empty, length-slice, drop-cons, drop-drop, drop-append_seam, get_or-drop, get_or-append_seam}
@@ -21,16 +21,9 @@ use Rattle.digits.proofs.Strings.{each}
 use Rattle.fields.specs.Runs.{All, empty, more, Stops, over, halt}
 use Rattle.fields.specs.declared.Scan.{Scan}
 use Rattle.fields.specs.Columns.{LengthField, Capital, type_rx, type_tx, type_warng, type_error}
-use Rattle.fields.specs.inner.Window.{Solid, Lined, FieldAt, Starts, Takes, taken, not as none-taken, TypeField, rx, tx, warng, error}
+use Rattle.fields.specs.inner.Window.{Solid, Lined, FieldAt, Starts, Takes, TypeField, rx, tx, warng, error}
 use Rattle.fields.proofs.Runs.{cut, all_map, all_append}
 use Rattle.fields.proofs.Window.{End, inside, next_lined, slice_drop, stops_here, no_stop, field_of}
-
-pub last_test : {P : Type 0} (b n : ℕ) → (P → ⊥) → Decides (P ⊎ (b ≡ n)) (eqb b n)
-last_test {P} b n f = go (eqb b n) refl
-  where
-    go : (r : Bool) → eqb b n ≡ r → Decides (P ⊎ (b ≡ n)) r
-    go true e = inr (eqb-true b n e)
-    go false e = ⊎_elim f (eqb-false b n e)
 
 -- What the answer of `ends` says of the byte, where it is false.
 pub is_solid : {b : ℕ} (r : Bool) → Decides (End b) r → r ≡ false → Solid b
@@ -45,7 +38,7 @@ stops_map g (halt {b = b} n) = halt (λ p. n (g b p))
 pub byte_at : (w : List ℕ) (at k : ℕ) {f rest : List ℕ} → FieldAt f rest (drop at w) → k < length f → get_or w (at + k) 0 ≡ get_or f k 0
 byte_at w at k {f} {rest} a h = sym (get_or-drop at w k 0) ∙ ap (λ (l : List ℕ). get_or l k 0) a.bytes ∙ get_or-append f rest 0 k h
 
--- The bytes t stand from `at` on, none of them ends the field, and the line goes on behind them.
+-- The bytes t stand from `at` on, none of them ends the field, and the line goes on after them.
 pub record StandsAt (t w : List ℕ) (at : ℕ) : Type 0 where
   pub bytes : drop at w ≡ t ++ drop (at + length t) w
   pub solid : All Solid t
@@ -75,7 +68,7 @@ module _ {w : List ℕ} {at : ℕ} where
   pub here : {t : List ℕ} → StandsAt t w at → at + length t < length w
   here {t} p = inside w (at + length t) p.lined
 
-  -- a byte that ends the field behind them
+  -- a byte that ends the field after them
   pub ended : {t : List ℕ} → StandsAt t w at → 0 < length t → (r : Bool) → Decides (End (get_or w (at + length t) 0)) r → r ≡ true
       → FieldAt t (drop (at + length t) w) (drop at w)
   ended {t} p h r d e = record { bytes = p.bytes; some = h; solid = p.solid; stops = stops_here w (at + length t) (shown r e d) }
@@ -92,7 +85,7 @@ module _ {w : List ℕ} {at : ℕ} where
   pub first_is : {f rest : List ℕ} → Starts w at → FieldAt f rest (drop at w) → get_or w at 0 ≡ get_or f 0 0
   first_is s a = rw add-zero at (byte_at w at 0 a a.some)
 
-  -- and goes on with those behind it
+  -- and goes on with those after it
   pub then_is : {t f rest : List ℕ} → StandsAt t w at → FieldAt f rest (drop at w) → length t < length f
       → get_or w (at + length t) 0 ≡ get_or f (length t) 0
   then_is {t} p a h = byte_at w at (length t) a h
@@ -184,12 +177,12 @@ long e z f g (inl p) = rw (z, f p) (error (ap (λ (x : ℕ). x ∷ 114 ∷ 114 �
 long e z f g (inr p) = rw (z, g p) (warng (ap (λ (x : ℕ). x ∷ 97 ∷ 114 ∷ 110 ∷ 103 ∷ []) p))
 
 -- The reader of the one type that starts with this byte reads types.
-pub type_takes : {w u : List ℕ} {at k : ℕ} {s : Scan} → Starts w at → TypeField k (get_or w at 0 ∷ u)
-    → Takes (λ v f. (f ≡ get_or w at 0 ∷ u) × (v ≡ k)) w at s → Takes TypeField w at s
-type_takes r m (taken a e p) = taken a e (rw (p.0, p.1) m)
-type_takes r m (none-taken z n) = none-taken z (λ f rest a v p. n f rest a v (type_one p m (sym (first_is r a))))
+pub type_takes : {w u : List ℕ} {at k : ℕ} (r : Option Scan) → Starts w at → TypeField k (get_or w at 0 ∷ u)
+    → Takes (λ v f. (f ≡ get_or w at 0 ∷ u) × (v ≡ k)) w at r → Takes TypeField w at r
+type_takes (Some s) r m t = record { field = t.field; there = t.there; place = t.place; has = rw (t.has.0, t.has.1) m }
+type_takes None r m n = λ f rest a v p. n f rest a v (type_one p m (sym (first_is r a)))
 
--- The bytes from `at` up to i are capitals, and the line goes on behind them.
+-- The bytes from `at` up to i are capitals, and the line goes on after them.
 pub record Capitals (w : List ℕ) (at i : ℕ) : Type 0 where
   pub from : at ≤ i
   pub all : All Capital (slice at i w)

@@ -15,7 +15,7 @@ module _ {P : ℕ → Type 0} where
   no_start p over e = let z : ◌≡◌ {A = ℕ} 0 1 = cc in omega arith
   no_start {b} p (halt {b = c} n) e = let h : c ≡ b = cc in n (rw h p)
 
-  -- the cut behind a run is the only one
+  -- the cut after a run is the only one
   pub cut : {f g s t : List ℕ} → All P f → All P g → Stops P s → Stops P t → f ++ s ≡ g ++ t → (f ≡ g) × (s ≡ t)
   cut empty empty xs ys e = (refl, e)
   cut empty (more n g) xs ys e = absurd (no_start n xs e)

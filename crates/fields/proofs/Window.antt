@@ -16,7 +16,7 @@ use Rattle.fields.proofs.Runs.{cut}
 abbrev pub End : ℕ → Type 0
 End b = (b ≡ 32) ⊎ (b ≡ 13)
 
--- The byte that stands behind a place, and what is behind it.
+-- The byte that stands at a place, and what is after it.
 pub head_at : (s : List ℕ) (i : ℕ) {b : ℕ} {t : List ℕ} → drop i s ≡ b ∷ t
     → (i < length s) × (get_or s i 0 ≡ b) × (drop (i + 1) s ≡ t)
 head_at s i {b} {t} e =
@@ -28,7 +28,7 @@ head_at s i {b} {t} e =
 pub inside : (w : List ℕ) (at : ℕ) → Lined (drop at w) → at < length w
 inside w at l = omega (arith, ap length l.is.ended ∙ length-append l.line (13 ∷ l.is.rest), length-drop at w)
 
--- The line behind a byte of it.
+-- The line after a byte of it.
 pub next_line : (w : List ℕ) (at : ℕ) {line : List ℕ} → LineBeforeCr line (drop at w) → get_or w at 0 ≢ 13
     → (l : List ℕ) × (line ≡ get_or w at 0 ∷ l) × LineBeforeCr l (drop (at + 1) w)
 next_line w at {line} l n = go line l

@@ -8,7 +8,7 @@ abbrev pub NoBlank : ℕ → Type 0
 NoBlank b = b ≢ blank
 
 -- The line is the fields, with blanks before the first, between two and after the last: a field is one byte or more, none of them a
--- blank, and behind it the line ends or a blank stands.
+-- blank, and after it the line ends or a blank stands.
 pub data Parted : List (List ℕ) → List ℕ → Type 0 where
   none : Parted [] []
   blank_first : {fs : List (List ℕ)} {s : List ℕ} → Parted fs s → Parted fs (blank ∷ s)

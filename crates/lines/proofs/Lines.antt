@@ -1,5 +1,6 @@
 -- Laws on the lines themselves: what the tests of a reader show, and what each refusal rules out.
 use Prim.Native.Nat.{ℕ, ◌+◌, ◌/◌, ◌%◌, ◌^◌, ◌≤◌, ◌<◌}
+use Rattle.std.specs.Prelude.{Option}
 use mathlib.Core.Path.{◌≡◌, refl, ap, sym, ◌∙◌}
 use mathlib.Core.Logic.{◌≢◌}
 use mathlib.Core.List.{List, [], ◌∷◌, ◌++◌}
@@ -7,6 +8,8 @@ use native.Mathlib.Nat.{pow-le-pow_right}
 use native.Mathlib.Omega.{arith}
 use lib.ListN.{length, get_or, drop, drop_of_length-le}
 use lib.Seq.{slice}
+use Rattle.base.specs.inner.Answers.{Answers}
+use Rattle.base.proofs.Answers.{same_answer}
 use Rattle.digits.specs.Digits.{Decimal, Padded}
 use Rattle.digits.proofs.Theorems.{one_decimal, one_padded, decimal_below}
 use Rattle.clock.specs.Start.{Start}
@@ -14,12 +17,9 @@ use Rattle.clock.proofs.Starts.{one_start}
 use Rattle.fields.specs.Runs.{empty, more, Stops, over, halt}
 use Rattle.fields.proofs.Scans.{digits_all}
 use Rattle.fields.proofs.Window.{head_at}
-use Rattle.lines.specs.declared.StartTime.{StartTime}
-use Rattle.lines.specs.declared.StartTime.TheVariants.{Ms, Not}
-use Rattle.lines.specs.Lines.{Inside, FirstLine, Blanks, VersionLine, start_text, StartDigits, StartLine, NoDollar, nothing, other, Comment, DollarLine}
-use Rattle.lines.specs.inner.Answer.{StartOr, VersionOr0, version, none}
-use Rattle.lines.specs.inner.Parts.{IsBlank, Digit, Ran, Opened, OpenedOr0, StandsAt, StartOfDigits, Figures, FiguresOr0, figures, no_figures}
-use Rattle.lines.proofs.Scans.{run_one, split, at_head, behind, not_opened, opened_one, below_zero}
+use Rattle.lines.specs.Lines.{Inside, FirstLine, Blanks, VersionLine, start_text, StartDigits, StartLine, NoDollar, nothing, other, Comment}
+use Rattle.lines.specs.inner.Parts.{IsBlank, Digit, Ran, Opened, StandsAt, Figures}
+use Rattle.lines.proofs.Scans.{run_one, split, at_head, behind, opened_one, below_zero}
 use Rattle.row.specs.Versions.{version_text}
 
 -- CR is not inside a line, nor LF.
@@ -51,10 +51,6 @@ module _ {text : List ℕ} {at e : ℕ} (r : Ran Inside text at e) where
       let n : e + 1 + 1 ≡ e + 2 = omega arith in
       record { inside = r.all; ended = split r ∙ rw (a, b, n) refl }
 
--- A line without `;` in front is no comment.
-pub no_remark : {line : List ℕ} {at : ℕ} → OpenedOr0 line at → at ≡ 0 → (Comment line → ⊥) × (DollarLine line → ⊥)
-no_remark o e = (λ c. not_opened o e c.bytes, λ d. not_opened o e d.bytes)
-
 module _ {line : List ℕ} {at : ℕ} (o : Opened line at) where
   pub comment_over : at ≡ length line → Comment line
   comment_over e =
@@ -73,14 +69,6 @@ module _ {line : List ℕ} {at : ℕ} (o : Opened line at) where
   comment_other h n =
       let f : NoDollar (drop at line) = rw (at_head line at h refl) (other (no_blank h) n) in
       record { before = o.before; rest = drop at line; bytes = o.bytes; blanks = o.blanks; free = f }
-
-  pub dollar_line : at < length line → get_or line at 0 ≡ 36 → DollarLine line
-  dollar_line h e = record {
-    before = o.before;
-    rest = drop (at + 1) line;
-    bytes = o.bytes ∙ ap (λ (l : List ℕ). 59 ∷ (o.before ++ l)) (at_head line at h e);
-    blanks = o.blanks;
-  }
 
 -- `$FILEVERSION=`
 abbrev pub file_text : List ℕ
@@ -135,10 +123,11 @@ module _ {line : List ℕ} {at : ℕ} (o : Opened line at) where
         }
 
     -- what the figures give is what the line gives
-    pub version_answer : {v : ℕ} → at + 13 + 3 ≤ length line → Blanks (drop (at + 13 + 3) line)
-        → FiguresOr0 (get_or line (at + 13) 0) (get_or line (at + 13 + 1) 0) (get_or line (at + 13 + 2) 0) v → VersionOr0 line v
-    version_answer h b (figures f) = version (version_made (record { room = h; is = f; blank_end = b }))
-    version_answer h b (no_figures z f) = none z (λ u l. f u (version_end l).is)
+    pub version_answer : (a : Option ℕ) → at + 13 + 3 ≤ length line → Blanks (drop (at + 13 + 3) line)
+        → Answers (Figures (get_or line (at + 13) 0) (get_or line (at + 13 + 1) 0) (get_or line (at + 13 + 2) 0)) a
+        → Answers (λ v. VersionLine v line) a
+    version_answer a h b =
+        same_answer a (λ v f. version_made (record { room = h; is = f; blank_end = b })) (λ v l. (version_end l).is)
 
 -- A point stops digits, and so do blanks.
 pub point_stops : {t : List ℕ} → Stops Digit (46 ∷ t)
@@ -205,10 +194,9 @@ module _ {line : List ℕ} {at : ℕ} (o : Opened line at) where
           }
 
       -- what the digits give is what the line gives
-      pub start_answer : (a : StartTime) → point < length line → get_or line point 0 ≡ 46 → Blanks (drop end line)
-          → StartOfDigits (slice (at + 11) point line) (slice (point + 1) end line) a → StartOr line a
-      start_answer (Ms s) h e b w = start_made h e b w
-      start_answer Not h e b f = λ s l. f s (start_digits l)
+      pub start_answer : (a : Option ℕ) → point < length line → get_or line point 0 ≡ 46 → Blanks (drop end line)
+          → Answers (StartDigits (slice (at + 11) point line) (slice (point + 1) end line)) a → Answers (λ s. StartLine s line) a
+      start_answer a h e b = same_answer a (λ s w. start_made h e b w) (λ s l. start_digits l)
 
 -- A day count of five digits.
 pub few_days : {n : ℕ} {s : List ℕ} → Decimal n s → length s ≤ 5 → n ≤ 99999

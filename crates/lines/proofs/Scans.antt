@@ -1,18 +1,25 @@
 -- Laws on the scans of a line: a run of bytes, bytes that stand at a place, and the place behind `;` and blanks.
 use Prim.Native.Nat.{ℕ, ◌+◌, ◌-◌, ◌≤◌, ◌<◌}
-use mathlib.Core.Path.{◌≡◌, ap, sym, ◌∙◌}
+use Rattle.std.specs.Prelude.{nat_eq}
+use Rattle.std.specs.List.{starts_with}
+use Rattle.std.proofs.lemmas.Bool.Decides.{Decides-eqb}
+use Rattle.std.proofs.lemmas.List.{take_all}
+use Rattle.std.proofs.lemmas.Slice.Eq.{starts_is}
+use mathlib.Core.Path.{◌≡◌, refl, ap, sym, ◌∙◌}
+use mathlib.Core.Bool.{Bool, true, false}
 use mathlib.Core.Logic.{◌≢◌}
 use mathlib.Core.List.{List, [], ◌∷◌, ◌++◌, append-nil}
 use native.Mathlib.Numerals.{add-one}
 use native.Mathlib.Omega.{arith}
-use lib.ListN.{length, get_or, take, drop, length-append, length-drop, drop_of_length-le, take-append-drop, get_or-append}
-use lib.Seq.{slice, slice_empty, drop-cons, drop-drop, drop-append_seam, get_or-drop, get_or-take, take_at, length-slice, length-take-le, ext_get_or}
+use lib.ListN.{length, get_or, take, drop, length-drop, drop_of_length-le}
+use lib.Seq.{slice, slice_empty, drop-cons, drop-drop, drop-append_seam, take_at, length-slice}
+use Rattle.base.specs.inner.Decides.{Decides}
 use Rattle.base.proofs.Lists.{slice_snoc}
 use Rattle.fields.specs.Runs.{All, empty, more, Stops, over, halt}
 use Rattle.fields.proofs.Runs.{cut, all_map, all_append}
 use Rattle.fields.proofs.Window.{slice_drop}
 use Rattle.lines.specs.Lines.{Blanks}
-use Rattle.lines.specs.inner.Parts.{IsBlank, Digit, Between, Ran, Opened, OpenedOr0, opened, none, StandsAt}
+use Rattle.lines.specs.inner.Parts.{IsBlank, Digit, Between, Ran, Opened, StandsAt}
 
 -- What a loop over a run keeps: the bytes passed have P.
 pub record Passed (P : ℕ → Type 0) (s : List ℕ) (i e : ℕ) : Type 0 where
@@ -103,25 +110,14 @@ module _ {t s : List ℕ} {at : ℕ} where
       let e : p.rest ≡ drop (at + length t) s = sym (drop-append_seam t p.rest) ∙ d ∙ drop-drop (length t) at s in
       p.bytes ∙ ap (λ (l : List ℕ). t ++ l) e
 
-  pub room : StandsAt t s at → at ≤ length s → at + length t ≤ length s
-  room p h = omega (arith, ap length p.bytes ∙ length-append t p.rest, length-drop at s)
-
-  pub byte_of : StandsAt t s at → (k : ℕ) → k < length t → get_or s (at + k) 0 ≡ get_or t k 0
-  byte_of p k h = sym (get_or-drop at s k 0) ∙ ap (λ (l : List ℕ). get_or l k 0) p.bytes ∙ get_or-append t p.rest 0 k h
-
-  pub all_stand : at + length t ≤ length s → ((k : ℕ) → k < length t → get_or s (at + k) 0 ≡ get_or t k 0) → StandsAt t s at
-  all_stand h f =
-      let n = length t in
-      let m : n ≤ length (drop at s) = omega (arith, length-drop at s) in
-      let l = length-take-le n (drop at s) m in
-      let e : take n (drop at s) ≡ t = ext_get_or 0 (take n (drop at s)) t l (λ k q.
-      let q' : k < n = omega arith in
-      get_or-take n (drop at s) k 0 q' ∙ get_or-drop at s k 0 ∙ f k q') in
-      let u = drop n (drop at s) in
-      record { rest = u; bytes = sym (take-append-drop n (drop at s)) ∙ ap (λ (x : List ℕ). x ++ u) e }
-
-pub first_byte : {s t : List ℕ} {b : ℕ} → s ≡ b ∷ t → (0 < length s) × (get_or s 0 0 ≡ b)
-first_byte e = (omega (arith, ap length e), ap (λ (l : List ℕ). get_or l 0 0) e)
+-- What the code's test of them says: it compares them with the rest of the line, which it lends.
+pub starts : (t s : List ℕ) (at : ℕ) (r : Bool) → r ≡ starts_with nat_eq (take (length s - at) (drop at s)) t → Decides (StandsAt t s at) r
+starts t s at r e = go r (starts_is Decides-eqb (drop at s) t r (rw (take_all (length s - at) (drop at s) (omega (arith, length-drop at s))) at e))
+  where
+    go : (r : Bool) → (r ≡ true → drop at s ≡ t ++ drop (length t) (drop at s)) × ((rest : List ℕ) → drop at s ≡ t ++ rest → r ≡ true)
+        → Decides (StandsAt t s at) r
+    go true h = record { rest = drop (length t) (drop at s); bytes = h.0 refl }
+    go false h = λ p. let z : false ≡ true = h.1 p.rest p.bytes in absurd (cc)
 
 -- The place behind `;` and blanks.
 pub opens : {line : List ℕ} {e : ℕ} → 0 < length line → get_or line 0 0 ≡ 59 → Ran IsBlank line 1 e → Opened line e
@@ -133,14 +129,6 @@ opens {line} {e} h b r = record {
   blanks = r.all;
   stops = r.stops;
 }
-
-pub is_opened : {line : List ℕ} {at : ℕ} → OpenedOr0 line at → at ≢ 0 → Opened line at
-is_opened (opened o) n = o
-is_opened (none e f) n = absurd (n e)
-
-pub not_opened : {line rest : List ℕ} {at : ℕ} → OpenedOr0 line at → at ≡ 0 → line ≡ 59 ∷ rest → ⊥
-not_opened (opened o) e b = let l = o.low in omega arith
-not_opened {rest = rest} (none e f) z b = f rest b
 
 -- It is the only one.
 pub opened_one : {line before : List ℕ} {at : ℕ} (rest : List ℕ) → Opened line at → Blanks before → Stops IsBlank rest

@@ -1,5 +1,6 @@
 -- What holds of single lines, for those who cite them: one line, one version, one start, one answer; and lines that there are.
 use Prim.Native.Nat.{ℕ, ◌+◌, ◌/◌, ◌%◌}
+use Rattle.std.specs.Prelude.{Option, Some, None}
 use mathlib.Core.Path.{◌≡◌, refl, ap, sym, ◌∙◌}
 use mathlib.Core.Logic.{◌≢◌}
 use mathlib.Core.List.{List, [], ◌∷◌, ◌++◌, append-nil}
@@ -7,20 +8,18 @@ use native.Mathlib.Omega.{arith}
 use lib.Dec.{T, leb, leb→le}
 use lib.ListN.{length, get_or}
 use lib.Seq.{length-slice}
+use Rattle.base.specs.inner.Answers.{Answers}
+use Rattle.base.proofs.Answers.{one_answer}
 use Rattle.digits.specs.Digits.{DecimalDigit, Digits, none as no-digits, more as digits_more}
 use Rattle.fields.specs.Runs.{All, empty, Stops, over, halt}
 use Rattle.base.proofs.Tables.{every, at}
 use Rattle.fields.proofs.Runs.{cut, all_of}
 use Rattle.fields.proofs.Scans.{digits_all}
 use Rattle.row.specs.Versions.{Version, is11, is12, version_text}
-use Rattle.lines.specs.declared.Ending.{Ending}
-use Rattle.lines.specs.declared.Ending.TheVariants as ending
-use Rattle.lines.specs.declared.StartTime.{StartTime}
-use Rattle.lines.specs.declared.StartTime.TheVariants as start-time
 use Rattle.lines.specs.declared.Remark.{Remark}
 use Rattle.lines.specs.declared.Remark.TheVariants as remark
 use Rattle.lines.specs.Lines.{Inside, FirstLine, Blanks, VersionLine, start_text, StartDigits, StartLine, NoDollar, nothing, other, Comment, DollarLine}
-use Rattle.lines.specs.inner.Answer.{EndsAt, VersionOr0, version, none, StartOr, Remarks}
+use Rattle.lines.specs.inner.Answer.{EndsAt, Remarks}
 use Rattle.lines.specs.inner.Parts.{IsBlank}
 use Rattle.lines.proofs.Lines.{cr_outside, lf_outside, point_stops, blanks_stop, digits_one}
 
@@ -96,28 +95,22 @@ not_both c d =
 
 -- Each promise leaves one answer only.
 
-pub one_end : (text : List ℕ) (at : ℕ) (a b : Ending) → EndsAt text at a → EndsAt text at b → a ≡ b
-one_end text at (ending.At d) (ending.At e) p q =
+pub one_end : (text : List ℕ) (at : ℕ) (a b : Option ℕ) → EndsAt text at a → EndsAt text at b → a ≡ b
+one_end text at (Some d) (Some e) p q =
     let x = (first_one p.2 q.2).0 in
     let a = length-slice at d text (omega (arith, p.1)) in
     let b = length-slice at e text (omega (arith, q.1)) in
     let m : d ≡ e = omega (arith, ap length x, p.0, q.0) in
-    ap ending.At m
-one_end text at (ending.At d) ending.Open p q = absurd (q _ _ p.2)
-one_end text at ending.Open (ending.At e) p q = absurd (p _ _ q.2)
-one_end text at ending.Open ending.Open p q = refl
+    ap Some m
+one_end text at (Some d) None p q = absurd (q _ _ p.2)
+one_end text at None (Some e) p q = absurd (p _ _ q.2)
+one_end text at None None p q = refl
 
-pub one_version : {line : List ℕ} {v u : ℕ} → VersionOr0 line v → VersionOr0 line u → v ≡ u
-one_version (version p) (version q) = version_one p q
-one_version {v = v} (version p) (none e f) = absurd (f v p)
-one_version {u = u} (none e f) (version q) = absurd (f u q)
-one_version (none e f) (none d g) = e ∙ sym d
+pub one_version : (line : List ℕ) (a b : Option ℕ) → Answers (λ v. VersionLine v line) a → Answers (λ v. VersionLine v line) b → a ≡ b
+one_version line = one_answer (λ v u p q. version_one p q)
 
-pub one_start_time : (line : List ℕ) (a b : StartTime) → StartOr line a → StartOr line b → a ≡ b
-one_start_time line (start-time.Ms s) (start-time.Ms u) p q = ap start-time.Ms (start_one p q)
-one_start_time line (start-time.Ms s) start-time.Not p f = absurd (f s p)
-one_start_time line start-time.Not (start-time.Ms u) f q = absurd (f u q)
-one_start_time line start-time.Not start-time.Not f g = refl
+pub one_start_time : (line : List ℕ) (a b : Option ℕ) → Answers (λ s. StartLine s line) a → Answers (λ s. StartLine s line) b → a ≡ b
+one_start_time line = one_answer (λ s u p q. start_one p q)
 
 pub one_remark : (line : List ℕ) (a b : Remark) → Remarks line a → Remarks line b → a ≡ b
 one_remark line remark.Plain remark.Plain p q = refl

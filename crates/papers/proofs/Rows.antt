@@ -81,7 +81,7 @@ no_20000000 : {e i : ℕ} → IdField e i (text "20000000") → ⊥
 no_20000000 (standard z h l) = omega (arith, h.width)
 no_20000000 (long z h l) = omega (arith, one_hex h id_20000000)
 
--- Behind length 0 stands no byte.
+-- After length 0 stands no byte.
 
 none_left : {fs : List (List ℕ)} → Row.Nothing fs → fs ≡ []
 none_left Row.nothing = refl

@@ -1,14 +1,17 @@
 -- Laws on the bytes of a number, each over their count.
-use Prim.Native.Nat.{ℕ, zero, suc, ◌+◌, ◌*◌, ◌/◌, ◌%◌, ◌^◌, ◌≤◌, ◌<◌}
-use mathlib.Core.Path.{◌≡◌, refl, ap, ap₂, sym, ◌∙◌}
+use Prim.Native.Nat.{ℕ, zero, suc, ◌+◌, ◌*◌, ◌-◌, ◌/◌, ◌%◌, ◌^◌, ◌≤◌, ◌<◌}
+use mathlib.Core.Path.{◌≡◌, refl, ap, sym, ◌∙◌}
+use mathlib.Core.Logic.{◌≢◌}
 use mathlib.Core.List.{List, [], ◌∷◌, ◌++◌, append_assoc, append-nil}
-use native.Mathlib.Nat.{add-zero, zero-add, add-suc, pow-suc}
+use native.Mathlib.Nat.{add-zero, add-suc, pow-suc, mul_comm, div-one, div-div-eq-div-mul}
 use native.Mathlib.Numerals.{add-one}
 use native.Mathlib.Omega.{arith}
-use lib.ListN.{length, get_or, set, length-append}
-use lib.Seq.{slice, slice_empty, sets, get_or_at}
-use lib.Arith.{digits_div, digits_mod}
-use Rattle.base.proofs.Lists.{slice_snoc, slice_join, same_cut, sets_append}
+use lib.ListN.{length, get_or, take, drop, set, length-append, length-drop}
+use lib.Seq.{sets, set_comm, get_or_at, get_or-drop, length-take-le}
+use mir.Syntax.{w32, w64}
+use Rattle.std.specs.Int.{bytes_high_first, from_be_bytes}
+use Rattle.std.proofs.lemmas.Nat.{be_bytes_4, be_bytes_8}
+use Rattle.base.proofs.Lists.{same_cut, sets_append}
 use Rattle.record.specs.Bytes.{bytes}
 
 -- The length of k bytes is k.
@@ -61,45 +64,62 @@ one_number (suc k) {m} {n} p q e =
     let d = one_number k (omega (arith, pow-suc 256 k)) (omega (arith, pow-suc 256 k)) r.0 in
     omega (arith, r.1)
 
--- Storing k + 1 bytes is storing k and then the last.
-pub stored : (k : ℕ) (l : List ℕ) (i n : ℕ)
-    → sets l i (bytes (suc k) n) ≡ set (sets l i (bytes k (n / 256))) (i + k) (n % 256)
-stored k l i n = rw (one_more, sets_append, length_bytes)
+-- The first byte.
+first : (k n : ℕ) → bytes (suc k) n ≡ (n / 256 ^ k % 256) ∷ bytes k n
+first zero n = rw (one_more 0 n, none (n / 256), none n, div-one)
+first (suc k) n =
+    let e : n / 256 / 256 ^ k ≡ n / 256 ^ suc k = div-div-eq-div-mul n 256 (256 ^ k) ∙ ap (λ (m : ℕ). n / m) (mul_comm 256 (256 ^ k) ∙ sym (pow-suc 256 k)) in
+    rw (one_more (suc k) n, first k (n / 256), e, one_more k n)
 
-pub stored_none : (l : List ℕ) (i n : ℕ) → sets l i (bytes 0 n) ≡ l
-stored_none l i n = rw none
+-- The bytes that std gives, of a number of any width.
+pub be_bytes : (k n : ℕ) → bytes_high_first k n ≡ bytes k n
+be_bytes zero n = sym (none n)
+be_bytes (suc zero) n = rw (first zero n, div-one, none)
+be_bytes (suc (suc k)) n = rw first (ap (λ (s : List ℕ). (n / 256 ^ suc k % 256) ∷ s) (be_bytes (suc k) n))
 
--- Storing j bytes and then k is storing j + k.
-pub stored_join : (j k : ℕ) (l : List ℕ) (i m n : ℕ) → n < 256 ^ k
-    → sets (sets l i (bytes j m)) (i + j) (bytes k n) ≡ sets l i (bytes (j + k) (m * 256 ^ k + n))
-stored_join j k l i m n h = rw (← join j k m n h, sets_append, length_bytes)
+take_below : (k : ℕ) (l : List ℕ) → ((i : ℕ) → get_or l i 0 < 256) → (i : ℕ) → get_or (take k l) i 0 < 256
+take_below zero l f i = omega arith
+take_below (suc k) [] f i = omega arith
+take_below (suc k) (x ∷ l) f zero = f 0
+take_below (suc k) (x ∷ l) f (suc i) = take_below k l (λ j. f (suc j)) i
 
--- Reading k + 1 bytes is reading k and then the last.
-read : (k : ℕ) (l : List ℕ) (i n x : ℕ) → i + k < length l → slice i (i + k) l ≡ bytes k n → x ≡ get_or l (i + k) 0
-    → x < 256 → slice i (i + suc k) l ≡ bytes (suc k) (n * 256 + x)
-read k l i n x h e f b =
-    let q : (n * 256 + x) / 256 ≡ n = digits_div n b in
-    let r : (n * 256 + x) % 256 ≡ x = digits_mod n b in
-    rw (add-suc, slice_snoc i (i + k) l (omega arith) h, e, ← f, one_more, q, r)
+-- The number that std reads from the bytes of a list between two places has these as its bytes.
+module _ (s : List ℕ) (f : (i : ℕ) → get_or s i 0 < 256) where
+  part_below : (k at i : ℕ) → get_or (take k (drop at s)) i 0 < 256
+  part_below k at = take_below k (drop at s) (λ i. rw get_or-drop (f (at + i)))
 
-read_none : (l : List ℕ) (i n : ℕ) → slice i (i + 0) l ≡ bytes 0 n
-read_none l i n = rw (add-zero, slice_empty, none)
+  part_length : (k at : ℕ) → at + k ≤ length s → length (take k (drop at s)) ≡ k
+  part_length k at h = length-take-le k (drop at s) (omega (arith, length-drop at s))
 
--- The number of four bytes, by Horner's rule.
-pub read4 : (l : List ℕ) (i a b c d : ℕ) → i + 4 ≤ length l
-    → (a ≡ get_or l i 0) × (a < 256) → (b ≡ get_or l (i + 1) 0) × (b < 256) → (c ≡ get_or l (i + 2) 0) × (c < 256)
-    → (d ≡ get_or l (i + 3) 0) × (d < 256) → slice i (i + 4) l ≡ bytes 4 (((a * 256 + b) * 256 + c) * 256 + d)
-read4 l i a b c d h p q r s =
-    let z : a ≡ get_or l (i + 0) 0 = rw add-zero p.0 in
-    let e = rw zero-add at (read 0 l i 0 a (omega arith) (read_none l i 0) z p.1) in
-    let f = read 1 l i a b (omega arith) e q.0 q.1 in
-    let g = read 2 l i (a * 256 + b) c (omega arith) f r.0 r.1 in
-    read 3 l i ((a * 256 + b) * 256 + c) d (omega arith) g s.0 s.1
+  part_is : (k at i j : ℕ) (x : List ℕ) → x ≡ take (j - i) (drop i s) → i ≡ at → j ≡ at + k → x ≡ take k (drop at s)
+  part_is k at i j x p e d =
+      let z : j - i ≡ k = omega arith in
+      p ∙ rw (z, e)
 
--- Reading j bytes and then k is reading j + k.
-pub read_join : (j k : ℕ) (l : List ℕ) (i t u m n : ℕ) → t ≡ i + j → u ≡ t + k → u ≤ length l → n < 256 ^ k
-    → slice i t l ≡ bytes j m → slice t (t + k) l ≡ bytes k n
-    → slice i u l ≡ bytes (j + k) (m * 256 ^ k + n)
-read_join j k l i t u m n e f h b p q =
-    rw f
-    (slice_join i t (t + k) l (omega arith) (omega arith) (omega arith) ∙ ap₂ ◌++◌ p q ∙ join j k m n b)
+  pub read4 : (at i j n : ℕ) (x : List ℕ) → x ≡ take (j - i) (drop i s) → i ≡ at → j ≡ at + 4 → at + 4 ≤ length s → n ≡ from_be_bytes w32 x
+      → take 4 (drop at s) ≡ bytes 4 n
+  read4 at i j n x p e d h q =
+      sym (be_bytes_4 (take 4 (drop at s)) n (part_length 4 at h) (part_below 4 at) (q ∙ ap (from_be_bytes w32) (part_is 4 at i j x p e d)))
+      ∙ be_bytes 4 n
+
+  pub read8 : (at i j n : ℕ) (x : List ℕ) → x ≡ take (j - i) (drop i s) → i ≡ at → j ≡ at + 8 → at + 8 ≤ length s → n ≡ from_be_bytes w64 x
+      → take 8 (drop at s) ≡ bytes 8 n
+  read8 at i j n x p e d h q =
+      sym (be_bytes_8 (take 8 (drop at s)) n (part_length 8 at h) (part_below 8 at) (q ∙ ap (from_be_bytes w64) (part_is 8 at i j x p e d)))
+      ∙ be_bytes 8 n
+
+-- A store past some others can be made before them.
+set_before : (s l : List ℕ) (i j x : ℕ) → i + length s ≤ j → sets (set l j x) i s ≡ set (sets l i s) j x
+set_before [] l i j x h = refl
+set_before (a ∷ s) l i j x h =
+    let d : j ≢ i = omega arith in
+    ap (λ (m : List ℕ). sets m (suc i) s) (set_comm l j i x a d) ∙ set_before s (set l i a) (suc i) j x (omega arith)
+
+-- Storing k + 1 bytes is storing the last and then k.
+pub put_last : (k : ℕ) (l : List ℕ) (i n : ℕ) → sets (set l (i + k) (n % 256)) i (bytes k (n / 256)) ≡ sets l i (bytes (suc k) n)
+put_last k l i n =
+    set_before (bytes k (n / 256)) l i (i + k) (n % 256) (omega (arith, length_bytes k (n / 256)))
+    ∙ rw (one_more, sets_append, length_bytes)
+
+pub put_none : (l : List ℕ) (i n : ℕ) → sets l i (bytes 0 n) ≡ l
+put_none l i n = rw none

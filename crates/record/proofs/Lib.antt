@@ -3,4 +3,5 @@ pub mod Bytes
 pub mod Frames
 pub mod Words
 pub mod OneRecord
+pub mod Refusals
 pub mod Promises

@@ -29,7 +29,7 @@ pub packed_number : {t : Record} {m : ℕ} {s : List ℕ} {n : ℕ}
     → n < 256 ^ 20 → s ≡ bytes 20 n → Packs t m s → number t m ≡ n
 packed_number {t} h e p = one_number 20 (number_lt t (widths p.formed) p.bit) h (sym p.packed ∙ e)
 
--- The mark is the sixth bit from the end, and the five behind it are zero.
+-- The mark is the sixth bit from the end, and the five after it are zero.
 pub mark_place : {r : Record} {m : ℕ} {s : List ℕ} → Packs r m s → (get_or s 19 0 / 32 % 2 ≡ m) × (get_or s 19 0 % 32 ≡ 0)
 mark_place {r} {m} p =
     let e = rw (← p.packed) at (last_byte 19 (number r m)) in

@@ -7,15 +7,15 @@ use native.Mathlib.Nat.{zero-add}
 use native.Mathlib.Omega.{arith}
 use lib.ListN.{length, get_or, take, drop}
 use lib.Seq.{sets, sets-eq, take_at}
+use Rattle.std.specs.Prelude.{Result, Ok, Err}
+use Rattle.base.specs.declared.refusal.Refused.{Refused}
 use Rattle.record.specs.declared.Record.{Record}
-use Rattle.record.specs.declared.Packed.{Packed}
-use Rattle.record.specs.declared.Packed.TheVariants as packed
 use Rattle.record.specs.declared.Unpacked.{Unpacked}
-use Rattle.record.specs.declared.Unpacked.TheVariants as unpacked
 use Rattle.record.specs.Bytes.{bytes}
 use Rattle.record.specs.Record.{WellFormed, Packs, number}
-use Rattle.record.specs.Promise.{pack_numbers, fields_of, record_numbers, unpack_numbers, PackPromise, UnpackPromise}
+use Rattle.record.specs.Promise.{pack_numbers, fields_of, record_numbers, refusal_numbers, unpack_numbers, PackPromise, UnpackPromise}
 use Rattle.record.proofs.OneRecord.{packs, packed_length, one_marked, same_bytes}
+use Rattle.record.proofs.Refusals.{some_number, same_refused}
 
 -- The answer of `pack` and its output are the only ones.
 pub one_pack : {r : Record} {m : ℕ} {l a b x y : List ℕ} → PackPromise r m l a x → PackPromise r m l b y → (a ≡ b) × (x ≡ y)
@@ -64,52 +64,48 @@ pub same_numbers : {m n : ℕ} (r t : Record) → record_numbers r m ≡ record_
 same_numbers r t e = (same_fields r t (cc), cc)
 
 -- The numbers tell the answer of `pack`.
-pub same_packed : (a b : Packed) → pack_numbers a ≡ pack_numbers b → a ≡ b
-same_packed packed.Done packed.Done e = refl
-same_packed packed.Done packed.Malformed e = other e (omega arith)
-same_packed packed.Done packed.Short e = other e (omega arith)
-same_packed packed.Malformed packed.Done e = other e (omega arith)
-same_packed packed.Malformed packed.Malformed e = refl
-same_packed packed.Malformed packed.Short e = other e (omega arith)
-same_packed packed.Short packed.Done e = other e (omega arith)
-same_packed packed.Short packed.Malformed e = other e (omega arith)
-same_packed packed.Short packed.Short e = refl
+pub same_packed : (a b : Result Unit Refused) → pack_numbers a ≡ pack_numbers b → a ≡ b
+same_packed (Ok x) (Ok y) e = refl
+same_packed (Ok x) (Err f) e = other e (λ z. some_number f.reason (sym z))
+same_packed (Err d) (Ok y) e = other e (some_number d.reason)
+same_packed (Err d) (Err f) e = ap Err (same_refused (cc) (cc))
 
 -- The numbers tell the answer of `unpack`.
-pub same_unpacked : (a b : Unpacked) → unpack_numbers a ≡ unpack_numbers b → a ≡ b
-same_unpacked (unpacked.Fields r m) (unpacked.Fields t n) e =
-    let z = same_numbers r t e in
-    ap₂ unpacked.Fields z.0 z.1
-same_unpacked (unpacked.Fields r m) unpacked.NotTwenty e = other e (omega arith)
-same_unpacked (unpacked.Fields r m) unpacked.Malformed e = other e (omega arith)
-same_unpacked unpacked.NotTwenty (unpacked.Fields t n) e = other e (omega arith)
-same_unpacked unpacked.NotTwenty unpacked.NotTwenty e = refl
-same_unpacked unpacked.NotTwenty unpacked.Malformed e = other e (omega arith)
-same_unpacked unpacked.Malformed (unpacked.Fields t n) e = other e (omega arith)
-same_unpacked unpacked.Malformed unpacked.NotTwenty e = other e (omega arith)
-same_unpacked unpacked.Malformed unpacked.Malformed e = refl
+pub same_unpacked : (a b : Result Unpacked Refused) → unpack_numbers a ≡ unpack_numbers b → a ≡ b
+same_unpacked (Ok u) (Ok v) e =
+    let z = same_numbers u.r v.r e in
+    ap Ok (λ i. record { r = z.0 i; mark = z.1 i })
+same_unpacked (Ok u) (Err f) e = other e (λ z. some_number f.reason (sym z))
+same_unpacked (Err d) (Ok v) e = other e (some_number d.reason)
+same_unpacked (Err d) (Err f) e = ap Err (same_refused (cc) (cc))
 
 -- What each answer of `unpack` says.
-pub unpacked_fields : {m : ℕ} {s : List ℕ} (r : Record) → UnpackPromise s (unpack_numbers (unpacked.Fields r m)) → Packs r m s
+pub unpacked_fields : {m : ℕ} {s : List ℕ} (r : Record) → UnpackPromise s (record_numbers r m) → Packs r m s
 unpacked_fields {m} {s} r (UnpackPromise.fields {r = t} p e) =
     let z = same_numbers r t e in
     rw (z.0, z.1) p
 unpacked_fields r (UnpackPromise.not_twenty n e) = other e (omega arith)
 unpacked_fields r (UnpackPromise.malformed k n e) = other e (omega arith)
 
-pub unpacked_not_twenty : {s : List ℕ} → UnpackPromise s (unpack_numbers unpacked.NotTwenty) → length s ≢ 20
+pub unpacked_not_twenty : {p : ℕ} {s : List ℕ} → UnpackPromise s (refusal_numbers 20 p) → length s ≢ 20
 unpacked_not_twenty (UnpackPromise.fields p e) = other e (omega arith)
 unpacked_not_twenty (UnpackPromise.not_twenty n e) = n
 unpacked_not_twenty (UnpackPromise.malformed k n e) = other e (omega arith)
 
-pub unpacked_malformed : {s : List ℕ} → UnpackPromise s (unpack_numbers unpacked.Malformed)
+pub unpacked_malformed : {p : ℕ} {s : List ℕ} → UnpackPromise s (refusal_numbers 23 p)
     → (length s ≡ 20) × ((r : Record) (m : ℕ) → Packs r m s → ⊥)
 unpacked_malformed (UnpackPromise.fields p e) = other e (omega arith)
 unpacked_malformed (UnpackPromise.not_twenty n e) = other e (omega arith)
 unpacked_malformed (UnpackPromise.malformed k n e) = (k, n)
 
+-- What is refused, for whatever reason, is no packed record.
+pub unpacked_refused : {s : List ℕ} (e : Refused) → UnpackPromise s (unpack_numbers (Err e)) → (r : Record) (m : ℕ) → Packs r m s → ⊥
+unpacked_refused e (UnpackPromise.fields p f) = other f (some_number e.reason)
+unpacked_refused e (UnpackPromise.not_twenty n f) = λ r m p. n (packed_length p)
+unpacked_refused e (UnpackPromise.malformed k n f) = n
+
 -- What each answer of `pack` says.
-pub packed_done : {r : Record} {m : ℕ} {l x : List ℕ} → PackPromise r m l (pack_numbers packed.Done) x
+pub packed_done : {r : Record} {m : ℕ} {l x : List ℕ} → PackPromise r m l (pack_numbers (Ok tt)) x
     → Packs r m (bytes 20 (number r m)) × (20 ≤ length l) × (x ≡ bytes 20 (number r m) ++ drop 20 l)
 packed_done {r} {m} {l} (PackPromise.done p h e f) = (packs p.formed p.bit, h, f ∙ ap (λ (s : List ℕ). s ++ drop 20 l) p.packed)
 packed_done (PackPromise.malformed n e f) = other e (omega arith)
@@ -121,34 +117,33 @@ packed_0 {l = l} (PackPromise.done {s = s} p h e f) = rw (f, take_at s (drop 20 
 packed_0 (PackPromise.malformed n e f) = other e (omega arith)
 packed_0 (PackPromise.short w b h e f) = other e (omega arith)
 
-pub packed_malformed : {r : Record} {m : ℕ} {l x : List ℕ} → PackPromise r m l (pack_numbers packed.Malformed) x
-    → (WellFormed r → m ≤ 1 → ⊥) × (x ≡ l)
+pub packed_malformed : {r : Record} {m : ℕ} {l ns x : List ℕ} → PackPromise r m l (23 ∷ ns) x → (WellFormed r → m ≤ 1 → ⊥) × (x ≡ l)
 packed_malformed (PackPromise.done p h e f) = other e (omega arith)
 packed_malformed (PackPromise.malformed n e f) = (n, f)
 packed_malformed (PackPromise.short w b h e f) = other e (omega arith)
 
-pub packed_short : {r : Record} {m : ℕ} {l x : List ℕ} → PackPromise r m l (pack_numbers packed.Short) x
+pub packed_short : {r : Record} {m : ℕ} {l ns x : List ℕ} → PackPromise r m l (25 ∷ ns) x
     → WellFormed r × (m ≤ 1) × (length l < 20) × (x ≡ l)
 packed_short (PackPromise.done p h e f) = other e (omega arith)
 packed_short (PackPromise.malformed n e f) = other e (omega arith)
 packed_short (PackPromise.short w b h e f) = (w, b, h, f)
 
 -- Unpacking what was packed gives the fields and the mark that were handed in.
-pub there_and_back : {r : Record} {m : ℕ} {l x a : List ℕ} → PackPromise r m l (pack_numbers packed.Done) x
-    → UnpackPromise (take 20 x) a → a ≡ unpack_numbers (unpacked.Fields r m)
+pub there_and_back : {r : Record} {m : ℕ} {l x a : List ℕ} → PackPromise r m l (pack_numbers (Ok tt)) x
+    → UnpackPromise (take 20 x) a → a ≡ unpack_numbers (Ok (record { r = r; mark = m }))
 there_and_back {r} {m} {l} {x} p q =
     let d = packed_done p in
     let e : take 20 x ≡ bytes 20 (number r m) =
     ap (take 20) d.2 ∙ take_at (bytes 20 (number r m)) (drop 20 l) 20 (packed_length d.0) in
     one_unpack (rw e at q) (UnpackPromise.fields d.0 refl)
 
--- Packing what was unpacked, into any output with room, gives the bytes that were handed in, and behind them what was there.
-pub back_and_there : {m : ℕ} {s l a x : List ℕ} (r : Record)
-    → UnpackPromise s (unpack_numbers (unpacked.Fields r m)) → 20 ≤ length l → PackPromise r m l a x
-    → (a ≡ pack_numbers packed.Done) × (x ≡ s ++ drop 20 l)
-back_and_there r p h q = one_pack q (PackPromise.done (unpacked_fields r p) h refl refl)
+-- Packing what was unpacked, into any output with room, gives the bytes that were handed in, and after them what was there.
+pub back_and_there : {s l a x : List ℕ} (u : Unpacked)
+    → UnpackPromise s (unpack_numbers (Ok u)) → 20 ≤ length l → PackPromise u.r u.mark l a x
+    → (a ≡ pack_numbers (Ok tt)) × (x ≡ s ++ drop 20 l)
+back_and_there u p h q = one_pack q (PackPromise.done (unpacked_fields u.r p) h refl refl)
 
--- Stored at the start, the bytes stand before what was behind them.
+-- Stored at the start, the bytes stand before what was after them.
 pub at_start : {r : Record} {m : ℕ} {s : List ℕ} (l : List ℕ) → Packs r m s → 20 ≤ length l → sets l 0 s ≡ s ++ drop 20 l
 at_start {s = s} l p h =
     let k = packed_length p in

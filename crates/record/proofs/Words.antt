@@ -1,18 +1,19 @@
 -- The 160 bits as words of 32, 64 and 64 bits, and that the number tells the fields and the mark.
 use Prim.Native.Nat.{ℕ, ◌+◌, ◌*◌, ◌/◌, ◌%◌, ◌^◌, ◌≤◌, ◌<◌}
-use mathlib.Core.Path.{◌≡◌, refl, ap, sym, ◌∙◌}
+use mathlib.Core.Path.{◌≡◌, ap, ap₂, ◌∙◌}
 use mathlib.Core.List.{List, ◌++◌}
 use native.Mathlib.Nat.{add-zero, div-add-mod', mul-mod_left}
 use native.Mathlib.Omega.{arith}
 use lib.Arith.{digits_lt}
-use lib.ListN.{length, take, drop, length-append}
-use lib.Seq.{slice, sets, take-add, drop_at, length-take-le}
+use lib.ListN.{take, drop, length-append}
+use lib.Seq.{sets, take-add, drop-drop}
 use Rattle.base.proofs.Lists.{sets_append}
 use Rattle.base.proofs.Numbers.{parts}
 use Rattle.record.specs.declared.Record.{Record}
 use Rattle.record.specs.Bytes.{bytes}
 use Rattle.record.specs.Record.{WellFormed, number}
-use Rattle.record.proofs.Bytes.{length_bytes, join, read_join}
+use Rattle.record.specs.inner.Words.{Words}
+use Rattle.record.proofs.Bytes.{length_bytes, join}
 
 -- Every field within its bits.
 pub record Widths (r : Record) : Type 0 where
@@ -120,32 +121,27 @@ module _ (r : Record) (h : Widths r) where
       rw (n, join 4 8 h m middle_lt, join 12 8 (h * 256 ^ 8 + m) l (low_lt b))
 
   -- Storing the three words is storing the twenty bytes.
-  pub stored_words : {mark : ℕ} → mark ≤ 1 → (l a b c : List ℕ) (i m : ℕ) → m ≡ middle_of r
-      → a ≡ sets l i (bytes 4 (r.offset / 2 ^ 16)) → b ≡ sets a (i + 4) (bytes 8 m)
-      → c ≡ sets b (i + 12) (bytes 8 (low mark)) → c ≡ sets l i (bytes 20 (number r mark))
-  stored_words t l a b c i m e p q s = rw (s, q, p, e, words t) (simp (sets_append, length-append, length_bytes))
-
--- The bytes behind a place, as a slice.
-slice_behind : (at n : ℕ) (s : List ℕ) → at ≤ length s → slice at (at + n) s ≡ take n (drop at s)
-slice_behind at n s h = rw (take-add at n s) (drop_at (take at s) (take n (drop at s)) at (length-take-le at s h))
+  pub stored_words : {mark : ℕ} → mark ≤ 1 → (s a b c : List ℕ) (i j k h m l : ℕ)
+      → a ≡ sets s i (bytes 4 h) → b ≡ sets a j (bytes 8 m) → c ≡ sets b k (bytes 8 l)
+      → j ≡ i + 4 → k ≡ i + 12 → h ≡ r.offset / 2 ^ 16 → m ≡ middle_of r → l ≡ low mark → c ≡ sets s i (bytes 20 (number r mark))
+  stored_words t s a b c i j k h m l p q o d e u v w =
+      rw (o, q, p, d, e, u, v, w, words t) (simp (sets_append, length-append, length_bytes))
 
 -- The twenty bytes at a place are the bytes of their three words.
-read_words : (s : List ℕ) (at h m l : ℕ) → at + 20 ≤ length s → m < 256 ^ 8 → l < 256 ^ 8
-    → slice at (at + 4) s ≡ bytes 4 h → slice (at + 4) (at + 4 + 8) s ≡ bytes 8 m → slice (at + 12) (at + 12 + 8) s ≡ bytes 8 l
+pub read_words : (s : List ℕ) (at h m l : ℕ) → m < 256 ^ 8 → l < 256 ^ 8
+    → take 4 (drop at s) ≡ bytes 4 h → take 8 (drop (at + 4) s) ≡ bytes 8 m → take 8 (drop (at + 12) s) ≡ bytes 8 l
     → take 20 (drop at s) ≡ bytes 20 ((h * 256 ^ 8 + m) * 256 ^ 8 + l)
-read_words s at h m l e pm pl p q r =
-    let f = read_join 4 8 s at (at + 4) (at + 12) h m refl (omega arith) (omega arith) pm p q in
-    sym (slice_behind at 20 s (omega arith))
-    ∙ read_join 12 8 s at (at + 12) (at + 20) (h * 256 ^ 8 + m) l refl (omega arith) e pl f r
+read_words s at h m l pm pl p q r =
+    let d = drop at s in
+    take-add 12 8 d
+    ∙ ap₂ (λ (x y : List ℕ). x ++ y)
+    (take-add 4 8 d ∙ ap₂ (λ (x y : List ℕ). x ++ y) p (ap (take 8) (drop-drop 4 at s) ∙ q) ∙ join 4 8 h m pm)
+    (ap (take 8) (drop-drop 12 at s) ∙ r)
+    ∙ join 12 8 (h * 256 ^ 8 + m) l pl
 
--- Three words, read from twenty bytes at a position.
-pub record Words (s : List ℕ) (at h m l : ℕ) : Type 0 where
-  pub are : take 20 (drop at s) ≡ bytes 20 ((h * 256 ^ 8 + m) * 256 ^ 8 + l)
-  pub below : (h * 256 ^ 8 + m) * 256 ^ 8 + l < 256 ^ 20
-
-pub three_words : (s : List ℕ) (at h m l : ℕ) → at + 20 ≤ length s → (h < 256 ^ 4) × (slice at (at + 4) s ≡ bytes 4 h)
-    → (m < 256 ^ 8) × (slice (at + 4) (at + 4 + 8) s ≡ bytes 8 m) → (l < 256 ^ 8) × (slice (at + 12) (at + 12 + 8) s ≡ bytes 8 l) → Words s at h m l
-three_words s at h m l e p q r = record { are = read_words s at h m l e q.0 r.0 p.1 q.1 r.1; below = digits_lt (digits_lt p.0 q.0) r.0 }
+-- As one number they are below 160 bits.
+pub words_lt : {s : List ℕ} {at h m l : ℕ} → Words s at h m l → (h * 256 ^ 8 + m) * 256 ^ 8 + l < 256 ^ 20
+words_lt w = digits_lt (digits_lt w.high w.middle) w.low
 
 two : (r : Record) (h x : ℕ) → after r (h * 2 ^ 16 + x) ≡ h * 2 ^ 58 + after r x
 two r h x = omega arith

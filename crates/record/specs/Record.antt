@@ -17,7 +17,7 @@ record_of fields =
       «data» = get_or fields 6 0;
     }
 
--- The mark, which stands behind these fields.
+-- The mark, which stands after these fields.
 abbrev pub mark_in : List ℕ → ℕ
 mark_in fields = get_or fields 7 0
 

@@ -1,1 +1,2 @@
 pub mod PackedAt
+pub mod Words

@@ -2,20 +2,20 @@
 #![tactic(auto)]
 
 ghost use Rattle.std.specs.Prelude.{◌≡◌, ◌⊎◌, ◌+◌, ◌-◌, ◌*◌, ◌/◌, ◌%◌, ◌^◌, ◌≤◌, ◌<◌, length};
-ghost use Rattle.std.proofs.Math.Seq.{slice};
 ghost use Rattle.std.proofs.lemmas.List.Edits.{sets};
 ghost use Rattle.record.specs.inner.PackedAt.{PackedAt};
+ghost use Rattle.record.specs.inner.Words.{Words};
 ghost use Rattle.base.specs.inner.Decides.{Decides};
 ghost use Rattle.record.specs.declared.Record.{Record as AnyRecord};
 ghost use Rattle.record.specs.Bytes.{bytes};
 ghost use Rattle.record.specs.Record.{record_of, number, ErrorId, Position, Warning, ErrorFrame, WellFormed};
 ghost use Rattle.record.specs.Promise.{pack_numbers, unpack_numbers, PackPromise, UnpackPromise};
 
-use base::{LAST_BUS, OFFSET_LIMIT, wide};
+use base::{LAST_BUS, OFFSET_LIMIT, Refusal, Refused};
 
 // The fields of a record, each wide enough to hold a wrong value. `data` is the eight data bytes, the first most
 // significant.
-#[derive(Clone, Copy)]
+#[derive(Clone, Copy, Default)]
 pub struct Record {
     pub offset: u64,
     pub bus: u64,
@@ -26,34 +26,28 @@ pub struct Record {
     pub data: u64,
 }
 
-// What `pack` answers: packed, a record that is not well formed, an output of less than twenty bytes.
+// A record and its mark.
 #[derive(Clone, Copy)]
-pub enum Packed {
-    Done,
-    Malformed,
-    Short,
-}
-
-// What `unpack` answers: the record and its mark, not twenty bytes, no packed record.
-#[derive(Clone, Copy)]
-pub enum Unpacked {
-    Fields { r: Record, mark: u64 },
-    NotTwenty,
-    Malformed,
+pub struct Unpacked {
+    pub r: Record,
+    pub mark: u64,
 }
 
 // The record with these fields, in this order.
-pub fn of_fields(fields: &[u64; 7]) -> Record
-    ensures { result ≡ record_of fields.now }
-{
-    Record {
-        offset: fields[0],
-        bus: fields[1],
-        kind: fields[2],
-        extended: fields[3],
-        id: fields[4],
-        len: fields[5],
-        data: fields[6],
+impl From<[u64; 7]> for Record {
+    ghost from_gives = { λ fields r. r ≡ record_of fields };
+
+    fn from(fields: [u64; 7]) -> Record {
+        let [offset, bus, kind, extended, id, len, data] = fields;
+        Record {
+            offset,
+            bus,
+            kind,
+            extended,
+            id,
+            len,
+            data,
+        }
     }
 }
 
@@ -61,22 +55,14 @@ pub fn of_fields(fields: &[u64; 7]) -> Record
 pub fn error_id(n: u64) -> bool
     ensures { Decides (ErrorId n) result }
 {
-    match n {
-        1 | 2 | 4 | 8 => true,
-        _ => false,
-    }
+    matches!(n, 1 | 2 | 4 | 8)
 }
 
 // Whether a number is a bit stream position.
 pub fn position(p: u64) -> bool
     ensures { Decides (Position p) result }
 {
-    match p {
-        2..=15 => true,
-        17..=19 => true,
-        23..=28 => true,
-        _ => false,
-    }
+    matches!(p, 2..=15 | 17..=19 | 23..=28)
 }
 
 // Whether the data bytes d past a length are zero. The shift moves the bytes before them out.
@@ -84,48 +70,25 @@ fn past(d: u64, len: u64) -> bool
     requires { len ≤ 8 }
     ensures { Decides (d % 256 ^ (8 - len) ≡ 0) result }
 {
-    if len == 8 {
-        return true;
-    }
-    if d << len * 8 != 0 {
-        return false;
-    }
-    true
+    len == 8 || d << len * 8 == 0
 }
 
 // Whether a record is as a warning must be.
 fn warning(r: Record) -> bool
     ensures { Decides (Warning r) result }
 {
-    if r.extended != 0 {
-        return false;
-    }
-    if r.id != 0 {
-        return false;
-    }
-    if r.len != 4 {
-        return false;
-    }
-    true
+    r.extended == 0 && r.id == 0 && r.len == 4
 }
 
 // Whether a record is as an error frame must be.
 fn error_frame(r: Record) -> bool
     ensures { Decides (ErrorFrame r) result }
 {
-    if r.extended != 0 {
-        return false;
-    }
-    if r.len != 4 {
-        return false;
-    }
-    if 1 < r.data / 0x100_0000_0000_0000 {
-        return false;
-    }
-    if !error_id(r.id) {
-        return false;
-    }
-    position(r.data / 0x1_0000_0000_0000 % 256)
+    r.extended == 0
+        && r.len == 4
+        && r.data / 0x100_0000_0000_0000 <= 1
+        && error_id(r.id)
+        && position(r.data / 0x1_0000_0000_0000 % 256)
 }
 
 // Whether a record is as its kind asks.
@@ -146,79 +109,30 @@ fn as_kind(r: Record) -> bool
 pub fn well_formed(r: Record) -> bool
     ensures { Decides (WellFormed r) result }
 {
-    if OFFSET_LIMIT < r.offset {
+    // As one chain of `&&` these tests are compiled to vector comparisons, and writing takes a tenth longer.
+    if r.offset > OFFSET_LIMIT || r.bus > LAST_BUS || r.kind > 5 || r.extended > 1 {
         return false;
     }
-    if LAST_BUS < r.bus {
+    if r.id > 0x1FFF_FFFF || (r.extended == 0 && r.id > 0x7FF) {
         return false;
     }
-    if 5 < r.kind {
-        return false;
-    }
-    if 1 < r.extended {
-        return false;
-    }
-    if 0x1FFF_FFFF < r.id {
-        return false;
-    }
-    if r.extended == 0 {
-        if 0x7FF < r.id {
-            return false;
-        }
-    }
-    if 8 < r.len {
-        return false;
-    }
-    if !past(r.data, r.len) {
+    if r.len > 8 || !past(r.data, r.len) {
         return false;
     }
     // Of data frames no more is asked, and most records are such.
-    if r.kind < 2 {
-        return true;
+    r.kind < 2 || as_kind(r)
+}
+
+// Puts the N bytes of a number at a position, from the last on.
+fn put<const N: usize>(out: &mut [u8], at: usize, n: u64)
+    requires { at + N ≤ length out.old }
+    ensures { out.new ≡ sets out.old at (bytes N n) }
+{
+    let mut rest = n;
+    for i in (0..N).rev() {
+        out[at + i] = (rest % 256) as u8;
+        rest /= 256;
     }
-    as_kind(r)
-}
-
-// Puts the four bytes of a number at a position.
-fn put4(out: &mut [u8], at: usize, n: u64)
-    requires { at + 4 ≤ length out.old }
-    ensures { out.new ≡ sets out.old at (bytes 4 n) }
-{
-    let c = n / 256;
-    let b = c / 256;
-    let a = b / 256;
-    out[at] = (a % 256) as u8;
-    out[at + 1] = (b % 256) as u8;
-    out[at + 2] = (c % 256) as u8;
-    out[at + 3] = (n % 256) as u8;
-}
-
-// Puts the eight bytes of a number at a position.
-fn put8(out: &mut [u8], at: usize, n: u64)
-    requires { at + 8 ≤ length out.old }
-    ensures { out.new ≡ sets out.old at (bytes 8 n) }
-{
-    put4(out, at, n / 0x1_0000_0000);
-    put4(out, at + 4, n % 0x1_0000_0000);
-}
-
-// The number whose four bytes stand at a position.
-fn get4(s: &[u8], at: usize) -> u64
-    requires { at + 4 ≤ length s.now }
-    ensures { (result < 256 ^ 4) × (slice at (at + 4) s.now ≡ bytes 4 result) }
-{
-    let a = wide(s[at]);
-    let b = a * 256 + wide(s[at + 1]);
-    let c = b * 256 + wide(s[at + 2]);
-    c * 256 + wide(s[at + 3])
-}
-
-// The number whose eight bytes stand at a position.
-fn get8(s: &[u8], at: usize) -> u64
-    requires { at + 8 ≤ length s.now }
-    ensures { (result < 256 ^ 8) × (slice at (at + 8) s.now ≡ bytes 8 result) }
-{
-    get4(s, at) * 0x1_0000_0000 + get4(s, at + 4)
 }
 
 // The bits from the 33rd to the 96th.
@@ -238,29 +152,34 @@ pub fn put_record(out: &mut [u8], at: usize, r: Record, mark: u64)
     requires { (at + 20 ≤ length out.old) × WellFormed r × (mark ≤ 1) }
     ensures { out.new ≡ sets out.old at (bytes 20 (number r mark)) }
 {
-    let p = at + 4;
-    let q = at + 12;
-    let m = middle(r);
-    put4(out, at, r.offset / 0x1_0000);
-    put8(out, p, m);
-    put8(out, q, r.data % 0x400_0000_0000_0000 * 64 + mark * 32);
+    put::<4>(out, at, r.offset / 0x1_0000);
+    put::<8>(out, at + 4, middle(r));
+    put::<8>(out, at + 12, r.data % 0x400_0000_0000_0000 * 64 + mark * 32);
 }
 
 // Packs one record with its mark at the start of the output.
-pub fn pack(r: Record, mark: u64, out: &mut [u8]) -> Packed
+pub fn pack(r: Record, mark: u64, out: &mut [u8]) -> Result<(), Refused>
     ensures { PackPromise r mark out.old (pack_numbers result) out.new }
 {
-    if 1 < mark {
-        return Packed::Malformed;
-    }
-    if !well_formed(r) {
-        return Packed::Malformed;
+    if 1 < mark || !well_formed(r) {
+        return Err(Refusal::Malformed.at(1));
     }
     if out.len() < 20 {
-        return Packed::Short;
+        return Err(Refusal::NoRoom.whole());
     }
     put_record(out, 0, r, mark);
-    Packed::Done
+    Ok(())
+}
+
+// The words of 32, 64 and 64 bits that twenty bytes at a position are.
+fn words_at(s: &[u8], at: usize) -> (u64, u64, u64)
+    requires { at + 20 ≤ length s.now }
+    ensures { Words s.now at result.0 result.1 result.2 }
+{
+    let h = u32::from_be_bytes(s[at..at + 4].try_into().unwrap());
+    let m = u64::from_be_bytes(s[at + 4..at + 12].try_into().unwrap());
+    let l = u64::from_be_bytes(s[at + 12..at + 20].try_into().unwrap());
+    (u64::from(h), m, l)
 }
 
 // The record whose number, with its mark, has 32 bits h, 64 bits m and 64 bits l.
@@ -292,31 +211,27 @@ pub fn packed_at(s: &[u8], at: usize) -> Record
     requires { (r : AnyRecord) × PackedAt s.now at r }
     ensures { PackedAt s.now at result }
 {
-    let h = get4(s, at);
-    let m = get8(s, at + 4);
-    let l = get8(s, at + 12);
+    let (h, m, l) = words_at(s, at);
     record_of(h, m, l)
 }
 
 // The record that twenty bytes are, and its mark.
-pub fn unpack(s: &[u8]) -> Unpacked
+pub fn unpack(s: &[u8]) -> Result<Unpacked, Refused>
     ensures { UnpackPromise s.now (unpack_numbers result) }
 {
     if s.len() != 20 {
-        return Unpacked::NotTwenty;
+        return Err(Refusal::NotRecords.whole());
     }
-    let h = get4(s, 0);
-    let m = get8(s, 4);
-    let l = get8(s, 12);
+    let (h, m, l) = words_at(s, 0);
     if l % 32 != 0 {
-        return Unpacked::Malformed;
+        return Err(Refusal::Malformed.at(1));
     }
     let r = record_of(h, m, l);
     if !well_formed(r) {
-        return Unpacked::Malformed;
+        return Err(Refusal::Malformed.at(1));
     }
-    Unpacked::Fields {
+    Ok(Unpacked {
         r,
         mark: l / 32 % 2,
-    }
+    })
 }

@@ -16,7 +16,7 @@ use Rattle.records.specs.StepBack
 use Rattle.records.proofs.Packing.{mark_below, mark_none, after_length, first_packs}
 use Rattle.records.proofs.Records.{behind}
 
--- Record i + 1 of some records is record i of those behind the first.
+-- Record i + 1 of some records is record i of those after the first.
 shifted : (b : ℕ) (r : Record) (rs : List Record) (i : ℕ) → drop (20 * suc i) (packed_after b (r ∷ rs)) ≡ drop (20 * i) (packed_after r.offset rs)
 shifted b r rs i = behind b r rs (20 * suc i) (20 * i) (omega arith)
 
@@ -25,7 +25,7 @@ nowhere b i p =
     let s = packed_after b [] in
     omega (arith, packed_length p, length-take 20 (drop i s), length-drop i s, after_length b [])
 
--- The first mark behind an offset.
+-- The first mark after an offset.
 head_mark : {q : Record} {mark : ℕ} {rs : List Record} (b : ℕ) → Each WellFormed rs → Packs q mark (take 20 (drop 0 (packed_after b rs)))
     → mark ≡ mark_after b q.offset
 head_mark b none p = absurd (nowhere b 0 p)
@@ -33,7 +33,7 @@ head_mark b (more {r = r} {rs = rs} w ws) p =
     let z = one_marked p (first_packs b r rs w) in
     z.1 ∙ ap (λ (x : Record). mark_after b x.offset) (sym z.0)
 
--- And that of any record behind another.
+-- And that of any record after another.
 next_mark : {r q : Record} {k mark : ℕ} {rs : List Record} (b i : ℕ) → Each WellFormed rs → Packs r k (take 20 (drop (20 * i) (packed_after b rs)))
     → Packs q mark (take 20 (drop (20 * suc i) (packed_after b rs))) → mark ≡ mark_after r.offset q.offset
 next_mark b i none p g = absurd (nowhere b (20 * i) p)
@@ -43,7 +43,7 @@ next_mark {r} {q} b zero (more {r = x} {rs = rs} w ws) p g =
 next_mark b (suc i) (more {r = x} {rs = rs} w ws) p g =
     next_mark x.offset i ws (rw (shifted b x rs i) at p) (rw (shifted b x rs (suc i)) at g)
 
--- A record stands in its list with the mark that it has behind those before it.
+-- A record stands in its list with the mark that it has after those before it.
 in_list : (b : ℕ) (front : List Record) (r : Record) (back : List Record) → Each WellFormed (front ++ (r ∷ back))
     → Packs r (mark_after (last_after b front) r.offset) (take 20 (drop (20 * length front) (packed_after b (front ++ (r ∷ back)))))
 in_list b [] r back (more w ws) = first_packs b r back w
@@ -62,7 +62,7 @@ module _ {rs : List Record} {s : List ℕ} (h : PacksAll rs s) where
       → mark ≡ mark_after r.offset q.offset
   mark_told i p g = next_mark 0 i h.formed (rw h.bytes at p) (rw h.bytes at g)
 
--- The first step back of some records behind an offset, the first of which stands at a position, and their first mark.
+-- The first step back of some records after an offset, the first of which stands at a position, and their first mark.
 data From (s : List ℕ) (n at : ℕ) : ℕ → Type 0 where
   nothing : ((i : ℕ) → i < n → MarkAt s i 0) → From s n at 0
   found : {i b : ℕ} → b ≡ at + i → MarkAt s i 1 → ((j : ℕ) → j < i → MarkAt s j 0) → From s n at b
@@ -94,7 +94,7 @@ unfolding back_from
 from at b none = nothing (λ i h. absurd (omega arith))
 from at b (more {r = r} {rs = rs} w ws) = step at b rs w (from (at + 1) r.offset ws) (below_or_not r.offset b)
 
--- No offset is below 0, so that the first step back of a whole list is that behind 0.
+-- No offset is below 0, so that the first step back of a whole list is that after 0.
 whole_list : (rs : List Record) → step_back rs ≡ back_from 1 0 rs
 unfolding step_back back_from
 whole_list [] = refl

@@ -20,7 +20,7 @@ pub mark_below : {before offset : ℕ} → offset < before → mark_after before
 unfolding mark_after
 mark_below {before} {offset} h = rw (lt-ltb offset before h)
 
--- else 0: behind the same offset, or a lower one, as behind none.
+-- else 0: after the same offset, or a lower one, as after none.
 pub mark_none : {before offset : ℕ} → before ≤ offset → mark_after before offset ≡ 0
 unfolding mark_after
 mark_none {before} {offset} h = rw (le-ltb offset before h)
@@ -60,7 +60,7 @@ pub packed_none : (before : ℕ) → packed_after before [] ≡ []
 unfolding packed_after
 packed_none before = refl
 
--- Packed records, one list behind the other.
+-- Packed records, one list after the other.
 pub packed_append : (before : ℕ) (rs qs : List Record) → packed_after before (rs ++ qs) ≡ packed_after before rs ++ packed_after (last_after before rs) qs
 unfolding packed_after
 packed_append before [] qs = refl
@@ -87,7 +87,7 @@ packed_length rs = after_length 0 rs
 pub packed_count : {s : List ℕ} (rs : List Record) → s ≡ packed rs → length s / 20 ≡ length rs
 packed_count rs e = omega (arith, ap length e, packed_length rs)
 
--- The twenty bytes at a place, and what stands behind them.
+-- The twenty bytes at a place, and what stands after them.
 pub twenty : (at : ℕ) (s : List ℕ) → at + 20 ≤ length s → length (take 20 (drop at s)) ≡ 20
 twenty at s h = length-take-le 20 (drop at s) (omega (arith, length-drop at s))
 

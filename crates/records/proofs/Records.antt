@@ -14,14 +14,14 @@ use Rattle.records.specs.Records.{mark_after, last_after, last_offset, packed_af
 use Rattle.records.proofs.Packing as packing
 use Rattle.records.proofs.Packing.{marked, marked_length, marked_packs, first_packs, rest_packed}
 
--- Fronts of one length are one front, and the same stands behind them.
+-- Fronts of one length are one front, and the same stands after them.
 fronts : (a b c d : List ℕ) → length a ≡ length b → a ++ c ≡ b ++ d → (a ≡ b) × (c ≡ d)
 fronts a b c d l e = (
   sym (take_at a c (length b) l) ∙ ap (take (length b)) e ∙ take_at b d (length b) refl,
   sym (drop_at a c (length b) l) ∙ ap (drop (length b)) e ∙ drop_at b d (length b) refl,
 )
 
--- No record stands first, with the mark that it has behind this offset.
+-- No record stands first, with the mark that it has after this offset.
 abbrev NoRecord : ℕ → List ℕ → Type 0
 NoRecord last x = (r : Record) (rest : List ℕ) → WellFormed r → x ≡ marked last r ++ rest → ⊥
 
@@ -38,7 +38,7 @@ module _ {s : List ℕ} {place : ℕ} (f : FirstMalformed s place) where
       let l = f.twenty ∙ sym (marked_length b r) in
       f.malformed r (rw (fronts f.these (marked b r) f.after rest l e).0 (marked_packs b w))
 
--- Records, and behind them what starts with none: both are the only ones.
+-- Records, and after them what starts with none: both are the only ones.
 records_one : {rs qs : List Record} (before : ℕ) (x y : List ℕ) → NoRecord (last_after before rs) x → NoRecord (last_after before qs) y
     → Each WellFormed rs → Each WellFormed qs → packed_after before rs ++ x ≡ packed_after before qs ++ y → (rs ≡ qs) × (x ≡ y)
 unfolding packed_after
@@ -80,7 +80,7 @@ none_malformed {rs} h f =
     let z = records_one 0 [] (left f) (nothing _) (no_record f) h.formed f.formed (append-nil (packed rs) ∙ sym h.bytes ∙ f.bytes) in
     omega (arith, ap length z.1, length-append f.these f.after, f.twenty)
 
--- Behind records, bytes that are no record, or one with a false mark, are the first malformed.
+-- After records, bytes that are no record, or one with a false mark, are the first malformed.
 module _ {before : List Record} {s these : List ℕ} (after : List ℕ) (e : s ≡ packed before ++ (these ++ after)) (w : Each WellFormed before) where
   pub malformed_at : length these ≡ 20 → ((r : Record) → Packs r (mark_after (last_offset before) r.offset) these → ⊥) → FirstMalformed s (length before + 1)
   malformed_at l f = record { before = before; these = these; after = after; bytes = e; formed = w; twenty = l; malformed = f; at = refl }
@@ -92,7 +92,7 @@ module _ {before : List Record} {s these : List ℕ} (after : List ℕ) (e : s �
   false_mark p d = malformed_at (packed_length p)
       (λ q g. let z = one_marked p g in d (z.1 ∙ ap (λ (x : Record). mark_after (last_offset before) x.offset) (sym z.0)))
 
--- The bytes behind the first record.
+-- The bytes after the first record.
 pub behind : (b : ℕ) (r : Record) (rs : List Record) (at i : ℕ) → at ≡ 20 + i → drop at (packed_after b (r ∷ rs)) ≡ drop i (packed_after r.offset rs)
 behind b r rs at i e =
     let s = packed_after b (r ∷ rs) in

@@ -11,7 +11,7 @@ use Rattle.record.specs.declared.Record.{Record}
 use Rattle.records.specs.Records.{last_after, last_offset}
 use Rattle.records.specs.StepBack.{back_from, step_back}
 
--- One record looked at: the place is it, or what is found behind it.
+-- One record looked at: the place is it, or what is found after it.
 abbrev pick : Bool → ℕ → ℕ → ℕ
 pick b at behind = elim b [ true ↦ at | false ↦ behind ]
 
@@ -31,7 +31,7 @@ from_keep at before (r ∷ rs) qs h =
     keep (ltb r.offset before) at (back_from (at + 1) r.offset (rs ++ qs)) (back_from (at + 1) r.offset rs) h
     (from_keep (at + 1) r.offset rs qs)
 
--- Where none was found, the records behind are looked at.
+-- Where none was found, the records after are looked at.
 from_on : (at before : ℕ) (rs qs : List Record) → 0 < at → back_from at before rs ≡ 0
     → back_from at before (rs ++ qs) ≡ back_from (at + length rs) (last_after before rs) qs
 unfolding back_from

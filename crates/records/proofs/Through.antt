@@ -20,7 +20,7 @@ pub record Through (s : List ℕ) (at k last : ℕ) : Type 0 where
   pub place : at ≡ 20 * k
   pub within : at ≤ length s
 
--- The twenty bytes at a place are this record, with the mark that it has behind the offset `last`.
+-- The twenty bytes at a place are this record, with the mark that it has after the offset `last`.
 abbrev pub NextIs : List ℕ → ℕ → ℕ → Record → Type 0
 NextIs s at last r = Packs r (mark_after last r.offset) (take 20 (drop at s))
 

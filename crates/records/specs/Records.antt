@@ -10,7 +10,7 @@ pub data Each (P : Record → Type 0) : List Record → Type 0 where
   none : Each P []
   more : {r : Record} {rs : List Record} → P r → Each P rs → Each P (r ∷ rs)
 
--- The mark of a record with this offset, behind one with the offset `before`: 1 exactly if it is below.
+-- The mark of a record with this offset, after one with the offset `before`: 1 exactly if it is below.
 unfoldable pub mark_after : ℕ → ℕ → ℕ
 mark_after before offset = cond (ltb offset before) 1 0
 
@@ -23,7 +23,7 @@ last_after before (r ∷ rs) = last_after r.offset rs
 abbrev pub last_offset : List Record → ℕ
 last_offset rs = last_after 0 rs
 
--- The records behind one with the offset `before`, packed one after the other, each with its mark.
+-- The records after one with the offset `before`, packed one after the other, each with its mark.
 unfoldable pub packed_after : ℕ → List Record → List ℕ
 packed_after before [] = []
 packed_after before (r ∷ rs) = bytes 20 (number r (mark_after before r.offset)) ++ packed_after r.offset rs
@@ -47,7 +47,7 @@ pub record PacksAll (rs : List Record) (s : List ℕ) : Type 0 where
   pub bytes : s ≡ packed rs
 
 -- The first record that is malformed by itself or whose mark is false, by its position from 1: those before it are well formed, with true marks,
--- and its twenty bytes are no packed record with the mark that it has behind them.
+-- and its twenty bytes are no packed record with the mark that it has after them.
 pub record FirstMalformed (s : List ℕ) (place : ℕ) : Type 0 where
   pub before : List Record
   pub these : List ℕ

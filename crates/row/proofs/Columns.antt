@@ -1,5 +1,5 @@
 -- What each stage knows: the columns that it takes off a row, and what it puts back.
-use Prim.Native.Nat.{ℕ, zero, suc, ◌+◌, ◌-◌, ◌^◌, ◌≤◌, ◌<◌}
+use Prim.Native.Nat.{ℕ, zero, suc, ◌-◌, ◌^◌, ◌≤◌, ◌<◌}
 use mathlib.Core.Path.{◌≡◌, refl, sym, ◌∙◌}
 use mathlib.Core.Logic.{◌≢◌}
 use mathlib.Core.Bool.{true, false}
@@ -9,7 +9,7 @@ use lib.ListN.{length}
 use Rattle.digits.proofs.Theorems.{one_hex}
 use Rattle.fields.specs.declared.Scan.{Scan}
 use Rattle.fields.specs.Columns.{NumberField, OffsetField, BusField, IdField, standard, long, LengthField}
-use Rattle.fields.specs.inner.Window.{HexField, TypeField}
+use Rattle.fields.specs.inner.Window.{HexField, TypeField, Taken}
 use Rattle.fields.specs.inner.Window.{rx as type-rx, tx as type-tx, warng as type-warng, error as type-err}
 use Rattle.fields.proofs.Columns.{number_one, offset_one, bus_one, length_one, type_one}
 use Rattle.record.specs.declared.Record.{Record}
@@ -21,7 +21,7 @@ use Rattle.row.specs.Versions.{Version, fraction_digits, has_bus}
 use Rattle.row.specs.Row
 use Rattle.row.specs.inner.Ids.{FormOf}
 use Rattle.row.specs.inner.Stages.{Steps, Continues, Good, known2, known4, continues_at}
-use Rattle.row.proofs.Moves.{Got, barred, went}
+use Rattle.row.proofs.Moves.{barred, went}
 
 -- The state behind a field.
 abbrev pub behind : ℕ → Stage → ℕ → ℕ → Record → Step
@@ -49,7 +49,7 @@ pub after_length : {sent : ℕ} {r : Record} {f : List ℕ} {fs : List (List ℕ
 after_length (Row.frame_length l d) = (l, d)
 
 -- The row number.
-module _ {w : List ℕ} {at k : ℕ} {s : Scan} {version : ℕ} (t : Step) (g : Got NumberField w at s) where
+module _ {w : List ℕ} {at k : ℕ} {s : Scan} {version : ℕ} (t : Step) (g : Taken NumberField w at s) where
   -- no row k has another number
   pub number_barred : t.at ≡ 0 → s.value ≢ k → Steps w at (λ fs r. Row.RowFields version k r fs) t
   number_barred z n = barred t g z (λ f fs r h e c. n (number_one h (after_number c).0))
@@ -60,7 +60,7 @@ module _ {w : List ℕ} {at k : ℕ} {s : Scan} {version : ℕ} (t : Step) (g : 
   number_went z e d o = went t g z d (λ f fs r h _ c. rw o (after_number c).1) (λ f fs r h _ c. Row.number (rw e at h) (rw o at c))
 
 module _ {w : List ℕ} {at : ℕ} (p : Part) {s : Scan} where
-  module _ {v : ℕ} (is : Version v) (g : Got (OffsetField (fraction_digits v)) w at s) where
+  module _ {v : ℕ} (is : Version v) (g : Taken (OffsetField (fraction_digits v)) w at s) where
     -- an offset with no bus behind it, and one with a bus
     pub offset_went : has_bus v ≡ false → (q : Record) → q.offset ≡ s.value → q.bus ≡ 0 → q.«data» ≡ 0
         → Steps w at (continues_at (stage.Offset v) p) (behind s.end stage.TypeColumn 0 0 q)
@@ -76,7 +76,7 @@ module _ {w : List ℕ} {at : ℕ} (p : Part) {s : Scan} where
         (λ f fs r o e c. let a = after_offset c in (offset_one a.0 o ∙ sym x, rw n at a.1))
         (λ f fs r o e c. let h : s.value ≡ r.offset = sym x ∙ sym c.0 in Row.offset is (rw h at o) (rw n c.1))
 
-  pub bus_went : (q : Record) → q.offset ≡ p.r.offset → q.bus ≡ s.value → q.«data» ≡ 0 → Got BusField w at s
+  pub bus_went : (q : Record) → q.offset ≡ p.r.offset → q.bus ≡ s.value → q.«data» ≡ 0 → Taken BusField w at s
       → Steps w at (continues_at stage.Bus p) (behind s.end stage.TypeColumn 0 0 q)
   bus_went q x y d g =
       went _ g refl d
@@ -139,7 +139,7 @@ of_error l (type-tx e) h = absurd (omega arith)
 of_error l (type-warng e) h = absurd (omega arith)
 of_error l (type-err e) h = failed h
 
-module _ {w : List ℕ} {at : ℕ} (p : Part) {s : Scan} (g : Got TypeField w at s) where
+module _ {w : List ℕ} {at : ℕ} (p : Part) {s : Scan} (g : Taken TypeField w at s) where
   pub type_frame : (q : Record) → s.value ≤ 1 → known2 q ≡ known2 p.r → q.kind ≡ s.value → q.«data» ≡ 0
       → Steps w at (continues_at stage.TypeColumn p) (behind s.end stage.Id 0 0 q)
   type_frame q l x k d =
@@ -161,68 +161,48 @@ module _ {w : List ℕ} {at : ℕ} (p : Part) {s : Scan} (g : Got TypeField w at
 
 -- The ID of a frame.
 
--- the two forms of an ID, by the width of its field
-pub data Form (v n x : ℕ) : Type 0 where
-  four : n ≡ 4 → x ≡ 0 → v ≤ 0x7FF → Form v n x
-  eight : n ≡ 8 → x ≡ 1 → v ≤ 0x1FFFFFFF → Form v n x
+pub form : {v x i : ℕ} {f : List ℕ} → HexField v f → IdField x i f → (i ≡ v) × FormOf v (length f) x
+form h (standard e k l) = let z = one_hex k h.spelled in (z, FormOf.standard k.width (rw z at l) e)
+form h (long e k l) = let z = one_hex k h.spelled in (z, FormOf.long k.width (rw z at l) e)
 
-pub form : {v x i : ℕ} {f : List ℕ} → HexField v f → IdField x i f → (i ≡ v) × Form v (length f) x
-form h (standard e k l) = let z = one_hex k h.spelled in (z, four k.width e (rw z at l))
-form h (long e k l) = let z = one_hex k h.spelled in (z, eight k.width e (rw z at l))
-
--- `form` answers 0 or 1 for a form of an ID, and else 2
-pub formed : {v n x : ℕ} → FormOf v n x → x ≤ 1 → Form v n x
-formed (FormOf.standard a b e) l = four a e b
-formed (FormOf.long a b e) l = eight a e b
-formed (FormOf.neither a b e) l = absurd (omega arith)
-
-pub unformed : {v n x : ℕ} → FormOf v n x → 1 < x → (n ≡ 4 → v ≤ 0x7FF → ⊥) × (n ≡ 8 → v ≤ 0x1FFFFFFF → ⊥)
-unformed (FormOf.standard a b e) l = absurd (omega arith)
-unformed (FormOf.long a b e) l = absurd (omega arith)
-unformed (FormOf.neither a b e) l = (a, b)
+pub same_form : {v n x y : ℕ} → FormOf v n x → FormOf v n y → x ≡ y
+same_form (FormOf.standard a l e) (FormOf.standard b k f) = e ∙ sym f
+same_form (FormOf.standard a l e) (FormOf.long b k f) = absurd (omega arith)
+same_form (FormOf.long a l e) (FormOf.standard b k f) = absurd (omega arith)
+same_form (FormOf.long a l e) (FormOf.long b k f) = e ∙ sym f
 
 pub some_id : {x i : ℕ} {f : List ℕ} → IdField x i f → (v : ℕ) × HexField v f
 some_id {i = i} (standard e k l) = let n = k.width in (i, record { spelled = rw (← n) at k; short = omega arith })
 some_id {i = i} (long e k l) = let n = k.width in (i, record { spelled = rw (← n) at k; short = omega arith })
 
-module _ {w : List ℕ} {at : ℕ} (p : Part) {s : Scan} (g : Got HexField w at s) where
+module _ {w : List ℕ} {at : ℕ} (p : Part) {s : Scan} (g : Taken HexField w at s) where
   -- no ID has this width and value
-  pub id_barred : (t : Step) → t.at ≡ 0 → (s.end - at ≡ 4 → s.value ≤ 0x7FF → ⊥) → (s.end - at ≡ 8 → s.value ≤ 0x1FFFFFFF → ⊥)
-      → Steps w at (continues_at stage.Id p) t
-  id_barred t z a b = barred t g z (λ f fs r h e c. go e (form h (after_id c.1).0).1)
-    where
-      go : {n x : ℕ} → s.end ≡ at + n → Form s.value n x → ⊥
-      go e (four n x l) = a (omega arith) l
-      go e (eight n x l) = b (omega arith) l
+  pub id_barred : (t : Step) → t.at ≡ 0 → ((x : ℕ) → FormOf s.value (s.end - at) x → ⊥) → Steps w at (continues_at stage.Id p) t
+  id_barred t z n =
+      barred t g z (λ f fs r h e c. let y : length f ≡ s.end - at = omega arith in n r.extended (rw y at (form h (after_id c.1).0).1))
 
   pub id_went : (q : Record) → p.r.kind ≤ 1 → known2 q ≡ known2 p.r → q.id ≡ s.value → q.kind ≡ p.r.kind → q.«data» ≡ 0
-      → Form s.value (s.end - at) q.extended → Steps w at (continues_at stage.Id p) (behind s.end stage.Length 0 0 q)
+      → FormOf s.value (s.end - at) q.extended → Steps w at (continues_at stage.Id p) (behind s.end stage.Length 0 0 q)
   id_went q l x i k d o =
       went _ g refl (rw k l, d)
       (λ f fs r h e c. let a = after_id c.1 in let z = form h a.0 in
       let y : s.end - at ≡ length f = omega arith in
-      let m : r.extended ≡ q.extended = same z.1 (rw y at o) in
+      let m : r.extended ≡ q.extended = same_form z.1 (rw y at o) in
       (cc (c.0, x, i, z.0, m), rw (← k) at a.1))
       (λ f fs r h e c. let y : s.end - at ≡ length f = omega arith in
       let m : q.extended ≡ r.extended = cc c.0 in
       let n : s.value ≡ r.id = cc (c.0, i) in
       (cc (c.0, x), Row.frame_id (back (rw y at o) h m n) (rw k at c.1)))
     where
-      same : {n y z : ℕ} → Form s.value n y → Form s.value n z → y ≡ z
-      same (four n x l) (four m y k) = x ∙ sym y
-      same (four n x l) (eight m y k) = absurd (omega arith)
-      same (eight n x l) (four m y k) = absurd (omega arith)
-      same (eight n x l) (eight m y k) = x ∙ sym y
-
-      back : {x y n : ℕ} {f : List ℕ} → Form s.value (length f) x → HexField s.value f → x ≡ y → s.value ≡ n → IdField y n f
-      back (four n x l) h e z = standard (sym e ∙ x) (rw (n, z) at h.spelled) (rw z at l)
-      back (eight n x l) h e z = long (sym e ∙ x) (rw (n, z) at h.spelled) (rw z at l)
+      back : {x y n : ℕ} {f : List ℕ} → FormOf s.value (length f) x → HexField s.value f → x ≡ y → s.value ≡ n → IdField y n f
+      back (FormOf.standard n l x) h e z = standard (sym e ∙ x) (rw (n, z) at h.spelled) (rw z at l)
+      back (FormOf.long n l x) h e z = long (sym e ∙ x) (rw (n, z) at h.spelled) (rw z at l)
 
 -- The length of a frame.
 
 module _ {w : List ℕ} {at : ℕ} (p : Part) {s : Scan} where
   pub length_went : (q : Record) → p.r.kind ≤ 1 → known4 q ≡ known4 p.r → q.len ≡ s.value → q.kind ≡ p.r.kind → q.«data» ≡ 0
-      → Got LengthField w at s → Steps w at (continues_at stage.Length p) (behind s.end stage.Data s.value (256 ^ 7) q)
+      → Taken LengthField w at s → Steps w at (continues_at stage.Length p) (behind s.end stage.Data s.value (256 ^ 7) q)
   length_went q l x n k d g =
       went _ g refl (rw k l, d, sym n, refl)
       (λ f fs r h e c. let a = after_length c.1 in let z = length_one a.0 h in (cc (c.0, x, n, z), rw (← k) at a.1))

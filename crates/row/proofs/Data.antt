@@ -1,4 +1,5 @@
 -- What each stage of the data knows: bytes, words, and where a row may end.
+use Rattle.std.specs.Prelude.{None}
 use Prim.Native.Nat.{ℕ, suc, ◌+◌, ◌*◌, ◌-◌, ◌/◌, ◌^◌, ◌≤◌}
 use native.Mathlib.Nat.{mul-le-mul_right, add_assoc}
 use mathlib.Core.Path.{◌≡◌, refl, ap, sym, ◌∙◌, subst}
@@ -11,7 +12,7 @@ use Rattle.digits.proofs.Theorems.{one_hex, hex_below}
 use Rattle.fields.specs.declared.Scan.{Scan}
 use Rattle.fields.specs.Columns.{Capital, remote_text}
 use Rattle.fields.specs.Runs.{All}
-use Rattle.fields.specs.inner.Window.{Takes}
+use Rattle.fields.specs.inner.Window.{Takes, Taken}
 use Rattle.record.specs.declared.Record.{Record}
 use Rattle.row.specs.declared.Part.{Part}
 use Rattle.row.specs.declared.Step.{Step}
@@ -19,7 +20,7 @@ use Rattle.row.specs.declared.Stage.{Stage}
 use Rattle.row.specs.declared.Stage.TheVariants as stage
 use Rattle.row.specs.Row
 use Rattle.row.specs.inner.Stages.{Steps, Byted, no_byte, one_byte, Gathers, plus, known5, continues_at, Continues, good_at, Good, moved, stuck}
-use Rattle.row.proofs.Moves.{Got, refused, went, none_there}
+use Rattle.row.proofs.Moves.{refused, went}
 use Rattle.row.proofs.Columns.{behind}
 
 -- Bytes taken off.
@@ -123,11 +124,11 @@ module _ {w : List ℕ} {at : ℕ} (p : Part) (t : Step) where
 after_word : {f : List ℕ} {fs : List (List ℕ)} → Row.Words (f ∷ fs) → All Capital f × Row.Words fs
 after_word (Row.word a h) = (a, h)
 
-module _ {w : List ℕ} {at : ℕ} (p : Part) {s : Scan} (n : p.left ≡ 0) where
-  pub word_refused : (t : Step) → Takes (λ v f. All Capital f) w at s → s.end ≡ 0 → t.at ≡ 0 → Steps w at (continues_at stage.WarningBytes p) t
-  word_refused t a z e = refused t a z e (λ f fs r c. (0, (after_word (no_more (rw n at c.bytes)).0).0))
+module _ {w : List ℕ} {at : ℕ} (p : Part) (n : p.left ≡ 0) where
+  pub word_refused : (t : Step) → Takes (λ v f. All Capital f) w at None → t.at ≡ 0 → Steps w at (continues_at stage.WarningBytes p) t
+  word_refused t a e = refused t a e (λ f fs r c. (0, (after_word (no_more (rw n at c.bytes)).0).0))
 
-  pub word_went : good_at stage.WarningBytes p → Got (λ v f. All Capital f) w at s
+  pub word_went : {s : Scan} → good_at stage.WarningBytes p → Taken (λ v f. All Capital f) w at s
       → Steps w at (continues_at stage.WarningBytes p) (behind s.end stage.WarningBytes 0 p.place p.r)
   word_went d g =
       went _ g refl d
@@ -156,7 +157,7 @@ of_remote : {sent : ℕ} {r : Record} {f : List ℕ} {fs : List (List ℕ)} → 
 of_remote k d e Row.nothing = Row.remote k d e
 
 module _ {w : List ℕ} {at : ℕ} (p : Part) (g : good_at stage.Data p) where
-  pub remote_went : {s : Scan} (q : Record) → q.kind ≡ p.r.kind + 2 → known5 q ≡ known5 p.r → q.«data» ≡ 0 → Got (λ v f. f ≡ remote_text) w at s
+  pub remote_went : {s : Scan} (q : Record) → q.kind ≡ p.r.kind + 2 → known5 q ≡ known5 p.r → q.«data» ≡ 0 → Taken (λ v f. f ≡ remote_text) w at s
       → Steps w at (continues_at stage.Data p) (behind s.end stage.Bytes 0 0 q)
   remote_went q k x d a =
       went _ a refl (omega arith)
@@ -167,16 +168,16 @@ module _ {w : List ℕ} {at : ℕ} (p : Part) (g : good_at stage.Data p) where
       let z : r.kind ≡ q.kind = cc c.known in
       (cc (c.known, x), of_remote (omega arith) (omega (arith, c.total, y.1)) e y.0))
 
-  pub data_barred : {s : Scan} (t : Step) → Takes (λ v f. f ≡ remote_text) w at s → s.end ≡ 0 → p.left ≡ 0 → t.at ≡ 0
+  pub data_barred : (t : Step) → Takes (λ v f. f ≡ remote_text) w at None → p.left ≡ 0 → t.at ≡ 0
       → Steps w at (continues_at stage.Data p) t
-  data_barred t a z n e =
-      stuck e (λ f rest b fs r c. let y = bytes_of c.1 (none_there a z f rest b 0) in
+  data_barred t a n e =
+      stuck e (λ f rest b fs r c. let y = bytes_of c.1 (a f rest b 0) in
       let m : r.len ≡ 0 = cc (c.0, g.2, n) in
       no_field (no_more (rw m at y.1)).0)
 
-  pub data_went : {s : Scan} (t : Step) → Takes (λ v f. f ≡ remote_text) w at s → s.end ≡ 0 → p.left ≢ 0 → Byted w at stage.Bytes p t
+  pub data_went : (t : Step) → Takes (λ v f. f ≡ remote_text) w at None → p.left ≢ 0 → Byted w at stage.Bytes p t
       → Steps w at (continues_at stage.Data p) t
-  data_went t a z n b = go (gathered p t frames n (rw (g.1, g.3) (omega arith)) b)
+  data_went t a n b = go (gathered p t frames n (rw (g.1, g.3) (omega arith)) b)
     where
       onto : (f : List ℕ) (fs : List (List ℕ)) (r : Record) → (f ≡ remote_text → ⊥) → continues_at stage.Data p (f ∷ fs) r → Gathers Row.Nothing p (f ∷ fs) r
       onto f fs r o c =
@@ -191,5 +192,5 @@ module _ {w : List ℕ} {at : ℕ} (p : Part) (g : good_at stage.Data p) where
           (cc c.known, Row.data_bytes (cc c.known) (rw (g.3, m, d) at c.bytes))
 
       go : Steps w at (Gathers Row.Nothing p) t → Steps w at (continues_at stage.Data p) t
-      go (stuck e f) = stuck e (λ f' rest h fs r c. f f' rest h fs r (onto f' fs r (none_there a z f' rest h 0) c))
-      go (moved h e k on ba) = moved h e k (λ fs r c. on fs r (onto _ fs r (none_there a z _ _ h 0) c)) (λ fs r c. back _ fs r (ba fs r c))
+      go (stuck e f) = stuck e (λ f' rest h fs r c. f f' rest h fs r (onto f' fs r (a f' rest h 0) c))
+      go (moved h e k on ba) = moved h e k (λ fs r c. on fs r (onto _ fs r (a _ _ h 0) c)) (λ fs r c. back _ fs r (ba fs r c))

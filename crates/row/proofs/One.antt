@@ -1,10 +1,13 @@
 -- One reading: a line is the row of one record at most, of one number and in one version.
 use Prim.Native.Nat.{ℕ, ◌+◌, ◌*◌, ◌^◌}
+use Rattle.std.specs.Prelude.{Option}
 use mathlib.Core.Path.{◌≡◌, refl, ap, ap₂, sym, ◌∙◌}
 use mathlib.Core.Bool.{Bool}
 use mathlib.Core.List.{List, [], ◌∷◌}
 use native.Mathlib.Omega.{arith}
 use lib.ListN.{length}
+use Rattle.base.specs.inner.Answers.{Answers}
+use Rattle.base.proofs.Answers.{one_answer}
 use Rattle.digits.proofs.Theorems.{one_hex}
 use Rattle.fields.specs.Columns.{OffsetField, remote_text}
 use Rattle.fields.specs.Runs.{halt}
@@ -18,7 +21,7 @@ use Rattle.record.proofs.Promises.{same_fields}
 use Rattle.row.specs.Row
 use Rattle.row.specs.inner.Ids.{FormOf}
 use Rattle.row.proofs.EachVersion.{digits_tell}
-use Rattle.row.proofs.Columns.{AfterType, received, sent, warned, failed, type_of}
+use Rattle.row.proofs.Columns.{AfterType, received, sent, warned, failed, type_of, same_form}
 
 -- The data.
 
@@ -122,13 +125,5 @@ version_only a b = go (rw (parted_one a.parted b.parted) at a.row) b.row
     go (Row.number n (Row.offset x o b)) (Row.number m (Row.offset y p c)) = digits_tell x y (width_one o p)
 
 -- An ID has one form, or none.
-pub form_one : {id width x y : ℕ} → FormOf id width x → FormOf id width y → x ≡ y
-form_one (FormOf.standard a b e) (FormOf.standard c d f) = e ∙ sym f
-form_one (FormOf.standard a b e) (FormOf.long c d f) = absurd (omega arith)
-form_one (FormOf.standard a b e) (FormOf.neither c d f) = absurd (c a b)
-form_one (FormOf.long a b e) (FormOf.standard c d f) = absurd (omega arith)
-form_one (FormOf.long a b e) (FormOf.long c d f) = e ∙ sym f
-form_one (FormOf.long a b e) (FormOf.neither c d f) = absurd (d a b)
-form_one (FormOf.neither a b e) (FormOf.standard c d f) = absurd (a c d)
-form_one (FormOf.neither a b e) (FormOf.long c d f) = absurd (b c d)
-form_one (FormOf.neither a b e) (FormOf.neither c d f) = e ∙ sym f
+pub form_one : (id width : ℕ) (a b : Option ℕ) → Answers (FormOf id width) a → Answers (FormOf id width) b → a ≡ b
+form_one id width = one_answer (λ x y p q. same_form p q)

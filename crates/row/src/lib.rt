@@ -18,7 +18,7 @@ pub const SECOND_PLACE: u64 = 281474976710656;
 // That of the third: 256 ^ 5.
 pub const THIRD_PLACE: u64 = 1099511627776;
 
-// Where the reader is in the columns of a row behind its number: what the next field is. Only the offset, and whether a bus
+// Where the reader is in the columns of a row after its number: what the next field is. Only the offset, and whether a bus
 // follows it, depends on the version.
 #[derive(Clone, Copy)]
 pub enum Stage {
@@ -47,7 +47,7 @@ pub struct Part {
     pub r: Record,
 }
 
-// The place behind a field, and what is known then; place 0 if no row goes on with the field.
+// The place after a field, and what is known then; place 0 if no row goes on with the field.
 #[derive(Clone, Copy)]
 pub struct Step {
     pub at: usize,

@@ -10,10 +10,7 @@ use record::Record;
 pub fn is_version(version: u64) -> bool
     ensures { Decides (Version version) result }
 {
-    if version == 11 {
-        return true;
-    }
-    version == 12
+    version == 11 || version == 12
 }
 
 // The lines before the comments and rows.
@@ -23,7 +20,7 @@ pub fn head_lines(version: u64) -> u64
     2
 }
 
-// The digits behind an offset's point.
+// The digits after an offset's point.
 pub fn fraction_digits(version: u64) -> usize
     ensures { result ≡ fraction_digits version }
 {
@@ -44,20 +41,9 @@ pub fn has_bus(version: u64) -> bool
 pub fn carries(r: Record, version: u64) -> bool
     ensures { Decides (Carries r version) result }
 {
-    if version == 11 {
-        if r.bus != 0 {
-            return false;
-        }
-        return r.offset % 100 == 0;
+    match version {
+        11 => r.bus == 0 && r.offset % 100 == 0,
+        12 => r.bus != 0 && r.bus <= LAST_BUS,
+        _ => false,
     }
-    if version != 12 {
-        return false;
-    }
-    if r.bus == 0 {
-        return false;
-    }
-    if LAST_BUS < r.bus {
-        return false;
-    }
-    true
 }

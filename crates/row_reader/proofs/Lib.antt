@@ -2,6 +2,5 @@ pub mod Chain
 pub mod Columns
 pub mod Numbers
 pub mod One
-pub mod Seven
 pub mod Walk
 pub mod Whole

@@ -1,6 +1,6 @@
 -- A gap changes no field, a field steps the state, and the line's end ends the row.
 use Prim.Native.Nat.{ℕ, suc, ◌<◌}
-use mathlib.Core.Path.{◌≡◌, refl, ap, sym, ◌∙◌}
+use mathlib.Core.Path.{◌≡◌, refl, ap, sym, ◌∙◌, subst}
 use mathlib.Core.Logic.{◌≢◌}
 use mathlib.Core.Bool.{Bool, true, false, true≢false}
 use mathlib.Core.List.{List, [], ◌∷◌, ◌++◌, append_assoc}
@@ -14,7 +14,6 @@ use Rattle.fields.proofs.Parts.{IsBlank, blanks, unblanks, only_none, first, fir
 use Rattle.fields.proofs.Runs.{all_map, all_left}
 use Rattle.fields.proofs.Window.{inside, slice_drop, next_line}
 use Rattle.record.specs.declared.Record.{Record}
-use Rattle.record.specs.Promise.{fields_of}
 use Rattle.row.specs.declared.Part.{Part}
 use Rattle.row.specs.declared.Step.{Step}
 use Rattle.row.specs.inner.Stages.{Steps, moved, stuck, EndsRow, whole, early, Continues, Good}
@@ -66,7 +65,7 @@ module _ {w : List ℕ} {at a : ℕ} (k : Skipped w at a) where
   pub after_gap : {line : List ℕ} → LineBeforeCr line (drop at w) → (l : List ℕ) × (line ≡ slice at a w ++ l) × LineBeforeCr l (drop a w)
   after_gap l = peel (drop a w) (all_map blank_plain k.blanks) (rw gap at l)
 
-  pub gap_found : {C : List (List ℕ) → Record → Type 0} {out line : List ℕ} {e : ℕ} → LineBeforeCr line (drop at w)
+  pub gap_found : {C : List (List ℕ) → Record → Type 0} {out : Record} {line : List ℕ} {e : ℕ} → LineBeforeCr line (drop at w)
       → ((l : List ℕ) → LineBeforeCr l (drop a w) → Finds C a l out e) → Finds C at line out e
   gap_found {C} {out} {line} {e} l f = let x = after_gap l in go x.1 (f x.0 x.2)
     where
@@ -74,12 +73,12 @@ module _ {w : List ℕ} {at a : ℕ} (k : Skipped w at a) where
       i = inside w a k.lined
 
       go : {l : List ℕ} → line ≡ slice at a w ++ l → Finds C a l out e → Finds C at line out e
-      go {l} q (found ps c o z) =
+      go {l} q (found ps c z) =
           let n = ap length q ∙ length-append (slice at a w) l in
           let b = i in
           let m = length-slice at a w (omega arith) in
           let h = k.from in
-          found (rw (← q) at (blanks k.blanks ps)) c o (omega arith)
+          found (rw (← q) at (blanks k.blanks ps)) c (omega arith)
       go {l} q (None-found z f) = None-found z (λ fs r ps. f fs r (unblanks l k.blanks (rw q at ps)))
 
   pub gap_starts : get_or w a 0 ≢ 13 → Starts w a
@@ -149,7 +148,7 @@ first_field w at k l ps = go ps l (next_line w at l k.solid.end).1
 
 module _ {w : List ℕ} {at : ℕ} {C : List (List ℕ) → Record → Type 0} {t : Step} where
   -- the field steps the state, and the rest of the line is read from there
-  pub field_found : {out line : List ℕ} {e : ℕ} → Steps w at C t → (t.at ≡ 0 → ⊥) → LineBeforeCr line (drop at w)
+  pub field_found : {out : Record} {line : List ℕ} {e : ℕ} → Steps w at C t → (t.at ≡ 0 → ⊥) → LineBeforeCr line (drop at w)
       → ((l : List ℕ) → LineBeforeCr l (drop t.at w) → Finds (Continues t.part) t.at l out e) → Finds C at line out e
   field_found (stuck z _) n l k = absurd (n z)
   field_found {out} {line} {e} (moved {f = f} a z g onto back) n l k =
@@ -157,33 +156,33 @@ module _ {w : List ℕ} {at : ℕ} {C : List (List ℕ) → Record → Type 0} {
       go x.1 (parts_here x.2 a.stops) (k x.0 x.2)
     where
       go : {l : List ℕ} → line ≡ f ++ l → Stops NoBlank l → Finds (Continues t.part) t.at l out e → Finds C at line out e
-      go {l} q s (found ps c o y) =
+      go {l} q s (found ps c y) =
           let m = ap length q ∙ length-append f l in
-          found (first a.some (all_map solid_dark a.solid) s ps q) (back _ _ c) o (omega arith)
+          found (first a.some (all_map solid_dark a.solid) s ps q) (back _ _ c) (omega arith)
       go {l} q s (None-found y h) = None-found y (λ fs r ps c.
           let u = first_only a.some (all_map solid_dark a.solid) s ps q in
           h u.0 r u.2 (onto u.0 r (rw u.1 at c)))
 
   -- no row goes on with the field
-  pub field_none : {out line : List ℕ} → Steps w at C t → t.at ≡ 0 → Starts w at → LineBeforeCr line (drop at w) → Finds C at line out 0
+  pub field_none : {out : Record} {line : List ℕ} → Steps w at C t → t.at ≡ 0 → Starts w at → LineBeforeCr line (drop at w) → Finds C at line out 0
   field_none (moved a e g onto back) z k l = let h = a.some in absurd (omega arith)
   field_none (stuck e f) z k l = None-found refl (λ fs r ps c.
       let x = first_field w at k l ps in
       f x.field x.rest x.there x.others r (rw x.first at c))
 
 -- Where the line ends.
-pub end_found : (w : List ℕ) (a : ℕ) {C : List (List ℕ) → Record → Type 0} {out line : List ℕ} {e : ℕ} → LineBeforeCr line (drop a w)
+pub end_found : (w : List ℕ) (a : ℕ) {C : List (List ℕ) → Record → Type 0} {out : Record} {line : List ℕ} {e : ℕ} → LineBeforeCr line (drop a w)
     → get_or w a 0 ≡ 13 → Finds C a [] out e → Finds C a line out e
 end_found w a l z f = rw (ends_here w a l z) f
 
 -- The answer at the end of the line.
-pub not_whole : {p : Part} {a : ℕ} {out : List ℕ} (b : Bool) → b ≡ false → EndsRow p.stage p b → Finds (Continues p) a [] out 0
+pub not_whole : {p : Part} {a : ℕ} {out : Record} (b : Bool) → b ≡ false → EndsRow p.stage p b → Finds (Continues p) a [] out 0
 not_whole false e (early f) = None-found refl (λ fs r ps c. f r (rw (only_none ps) at c))
 not_whole true e h = absurd (true≢false e)
 
-pub is_whole : {p : Part} {a e : ℕ} {out : List ℕ} (b : Bool) → b ≡ true → EndsRow p.stage p b → out ≡ fields_of p.r → e ≡ suc a
+pub is_whole : {p : Part} {a e : ℕ} {out : Record} (b : Bool) → b ≡ true → EndsRow p.stage p b → out ≡ p.r → e ≡ suc a
     → Finds (Continues p) a [] out e
-is_whole true e (whole c u) o z = found none c o (omega arith)
+is_whole {p = p} true e (whole c u) o z = found none (subst (λ r. Continues p [] r) (sym o) c) (omega arith)
 is_whole false e h o z = absurd (true≢false (sym e))
 
 -- Behind a field that was taken the line goes on.

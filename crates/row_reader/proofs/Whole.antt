@@ -1,20 +1,20 @@
 -- A line on its own: framed by a CR, read, and taken only if it is read to its end.
 use Prim.Native.Nat.{ℕ, suc, ◌+◌, ◌≤◌, ◌<◌}
+use Rattle.std.specs.Prelude.{Some}
 use mathlib.Core.Path.{◌≡◌, refl, ap, sym, ◌∙◌}
 use mathlib.Core.Logic.{◌⊎◌, inl, inr}
 use mathlib.Core.List.{List, [], ◌∷◌, ◌++◌}
 use native.Mathlib.Numerals.{add-one}
 use native.Mathlib.Omega.{arith}
 use native.Mathlib.Decide.{ℕ_discrete}
-use lib.ListN.{length, get_or, take, drop, set, length-append, length-drop}
+use lib.ListN.{length, get_or, take, drop, set, length-append}
 use lib.Seq.{take-suc, take-length, drop-cons, set_at, append_snoc, length-take-le}
-use Rattle.fields.specs.Runs.{All, empty, more}
-use Rattle.fields.specs.inner.Window.{NoEnd, LineBeforeCr}
+use Rattle.fields.specs.Runs.{empty, more}
+use Rattle.fields.specs.inner.Window.{LineBeforeCr}
 use Rattle.record.specs.declared.Record.{Record}
-use Rattle.record.specs.Record.{record_of}
 use Rattle.row.specs.Row.{Row}
 use Rattle.row.proofs.Plain.{row_plain}
-use Rattle.row_reader.specs.inner.Answer.{RowFound, row_found, no_row}
+use Rattle.row_reader.specs.inner.Answer.{RowFound}
 use Rattle.fields.proofs.Runs.{all_map}
 
 -- The line that stands before the first CR: all of s, or less of it, and then a CR stands behind it in s.
@@ -44,11 +44,6 @@ framed (b ∷ s) rest = go (ℕ_discrete b 13) (framed s rest)
       all = longer x.all;
     }
 
--- What has a CR in it is no line.
-pub cut_early : (line more : List ℕ) → All NoEnd (line ++ (13 ∷ more)) → ⊥
-cut_early [] m (more n a) = n refl
-cut_early (b ∷ line) m (more n a) = cut_early line m a
-
 -- One byte more is in the window.
 pub one_more : (s w : List ℕ) (i : ℕ) → i < length s → i < length w
     → set (take i s ++ drop i w) i (get_or s i 0) ≡ take (i + 1) s ++ drop (i + 1) w
@@ -68,34 +63,15 @@ pub record Filled (s before now : List ℕ) (n i : ℕ) : Type 0 where
   pub room : length s < length before
   pub bytes : now ≡ take i s ++ drop i before
 
-pub filled_length : {s before now : List ℕ} {n i : ℕ} → Filled s before now n i → length now ≡ length before
-filled_length {s} {before} {now} {n} {i} f =
-    let w = f.within in
-    let r = f.room in
-    omega (arith, ap length f.bytes ∙ length-append (take i s) (drop i before), length-take-le i s w, length-drop i before)
+-- A line that is a row is framed whole.
+pub row_framed : {v k : ℕ} {r : Record} {s : List ℕ} (rest : List ℕ) → Row v k r s → LineBeforeCr s (s ++ (13 ∷ rest))
+row_framed rest w = record { rest = rest; plain = all_map (λ b p. p.0) (row_plain w); ended = refl }
 
--- The answer for a line that is not read to its end, and for one that is.
-
-pub not_read : {v k e : ℕ} {s out : List ℕ} (rest : List ℕ)
-    → ((line : List ℕ) → LineBeforeCr line (s ++ (13 ∷ rest)) → RowFound v k 0 line out e)
-    → (e ≡ length s + 1 → ⊥) → (r : Record) → Row v k r s → ⊥
-not_read {v} {k} {e} {s} {out} rest f n r w = let x = framed s rest in go x.all (f x.line x.is)
-  where
-    plain : All NoEnd s
-    plain = all_map (λ b p. p.0) (row_plain w)
-
-    go : {line : List ℕ} → (line ≡ s) ⊎ ((more : List ℕ) × (s ≡ line ++ (13 ∷ more))) → RowFound v k 0 line out e → ⊥
-    go {line} (inr (m, q)) a = cut_early line m (rw q at plain)
-    go (inl q) (row_found u o z) = n (omega (arith, ap length q))
-    go (inl q) (no_row z g) = g r (rw (← q) at w)
-
-pub is_read : {v k e : ℕ} {s out : List ℕ} (rest : List ℕ)
-    → ((line : List ℕ) → LineBeforeCr line (s ++ (13 ∷ rest)) → RowFound v k 0 line out e)
-    → e ≡ length s + 1 → Row v k (record_of out) s
+-- A line that is read to its end is the row that was found.
+pub is_read : {v k e : ℕ} {s : List ℕ} {out : Record} (rest : List ℕ)
+    → ((line : List ℕ) → LineBeforeCr line (s ++ (13 ∷ rest)) → RowFound v k 0 line out (Some e)) → e ≡ length s → Row v k out s
 is_read {v} {k} {e} {s} {out} rest f z = let x = framed s rest in go x.all (f x.line x.is)
   where
-    go : {line : List ℕ} → (line ≡ s) ⊎ ((more : List ℕ) × (s ≡ line ++ (13 ∷ more))) → RowFound v k 0 line out e → Row v k (record_of out) s
-    go {line} (inr (m, q)) (row_found u o y) = absurd (omega (arith, ap length q ∙ length-append line (13 ∷ m)))
-    go (inr q) (no_row y f) = absurd (omega arith)
-    go (inl q) (row_found u o y) = rw (o) (rw q at u)
-    go (inl q) (no_row y g) = absurd (omega arith)
+    go : {line : List ℕ} → (line ≡ s) ⊎ ((more : List ℕ) × (s ≡ line ++ (13 ∷ more))) → RowFound v k 0 line out (Some e) → Row v k out s
+    go (inl q) a = rw q at a.0
+    go {line} (inr (m, q)) a = absurd (omega (arith, a.1, ap length q ∙ length-append line (13 ∷ m)))

@@ -1,46 +1,42 @@
-// Reads one row of a trace. A gap is skipped and the field behind it read, which goes on at the gap of the next column: one gap and one
+// Reads one row of a trace. A gap is skipped and the field after it read, which goes on at the gap of the next column: one gap and one
 // field for each column (`head`, then `frame`, `warning` or `error`), and the data bytes, and a warning's words, call each other to the end of
-// the row. Every parameter is a number or a reference to an array, and the result is a number.
+// the row. Every parameter is a number or a reference, and the result is a number.
 #![tactic(auto)]
 
 mod error;
 mod frame;
 mod head;
-mod slots;
 mod warning;
 
 ghost use Rattle.std.specs.Prelude.{◌≡◌, List, ◌∷◌, ◌++◌, ℕ, ◌+◌, ◌<◌, length, drop};
-ghost use Rattle.digits.specs.inner.HexTable.{HexTable};
+ghost use Rattle.base.specs.inner.Answers.{Answers};
 ghost use Rattle.fields.specs.inner.Window.{window_bytes, LineBeforeCr, Lined};
 ghost use Rattle.base.specs.Text.{cr};
 ghost use Rattle.row_reader.specs.inner.Answer.{ReadsRow, RowFound, NumberOf};
 
-use digits::hex_table;
-use fields::{WINDOW, at_end, number_field, skip_in};
+use digits::HexDigits;
+use fields::{Next, WINDOW, after_gap, number_field};
 use lines::LINE_LIMIT;
-use record::{Record, of_fields};
+use record::Record;
 
-// A record, or not a row.
-#[derive(Clone, Copy)]
-pub enum Reading {
-    Is(Record),
-    Not,
-}
-
-// Reads the line at a place of a window as row k of a version: one more than the place of its CR, and the record's fields in `out`; or 0, and
-// then `out` is scratch.
+// Reads the line at a place of a window as row k of a version: the place of its CR, and the record in `out`; or none, and then `out` is
+// scratch.
 pub fn row_in(
     w: &[u8; WINDOW],
     at: usize,
-    hex: &[u8; 256],
+    hex: &HexDigits,
     version: u64,
     k: u64,
-    out: &mut [u64; 7],
-) -> usize
-    requires { Lined (drop at w.now) × HexTable hex.now }
+    out: &mut Record,
+) -> Option<usize>
+    requires { Lined (drop at w.now) }
     ensures { (line : List ℕ) → LineBeforeCr line (drop at w.now) → RowFound version k at line out.new result }
 {
-    head::gap_number(w, at, hex, version, k, out)
+    // The chain answers with a number: with an Option its calls would not become a loop, and reading takes a tenth longer.
+    match head::gap_number(w, at, hex, version, k, out) {
+        0 => None,
+        e => Some(e - 1),
+    }
 }
 
 // The number of the row at a place of a window, where row e is expected: e itself, or, where e is 0, the number that stands there. If none stands
@@ -52,27 +48,23 @@ pub fn expected_number(w: &[u8; WINDOW], at: usize, e: u64) -> u64
     if e != 0 {
         return e;
     }
-    let a = skip_in(w, at);
-    if at_end(w, a) {
+    let Next::Field(a) = after_gap(w, at) else {
         return 0;
-    }
-    let s = number_field(w, a);
+    };
+    let Some(s) = number_field(w, a) else {
+        return 0;
+    };
     s.value
 }
 
-// Puts bytes at the front of a window, and CR behind them.
+// Puts bytes at the front of a window, and CR after them.
 pub fn window(s: &[u8], w: &mut [u8; WINDOW])
     requires { length s.now < window_bytes }
     ensures { w.new ≡ s.now ++ (cr ∷ drop (length s.now + 1) w.old) }
 {
     let slots: &mut [u8] = w;
-    let n = s.len();
-    let mut i = 0;
-    while i < n {
-        slots[i] = s[i];
-        i += 1;
-    }
-    slots[n] = b'\r';
+    slots[..s.len()].copy_from_slice(s);
+    slots[s.len()] = b'\r';
 }
 
 // A window to be filled. Of its bytes nothing is promised, which would be told one by one.
@@ -83,20 +75,19 @@ pub fn no_window() -> [u8; WINDOW]
 }
 
 // Reads a line as row k of a version.
-pub fn read_row(line: &[u8], version: u64, k: u64) -> Reading
-    ensures { ReadsRow version k line.now result }
+pub fn read_row(line: &[u8], version: u64, k: u64) -> Option<Record>
+    ensures { Answers (ReadsRow version k line.now) result }
 {
-    let n = line.len();
-    if LINE_LIMIT < n {
-        return Reading::Not;
+    if LINE_LIMIT < line.len() {
+        return None;
     }
     let mut w = no_window();
     window(line, &mut w);
-    let mut out = [0u64; 7];
-    let hex = hex_table();
-    let e = row_in(&w, 0, &hex, version, k, &mut out);
-    if e != n + 1 {
-        return Reading::Not;
+    let mut out = Record::default();
+    let hex = HexDigits::new();
+    let end = row_in(&w, 0, &hex, version, k, &mut out)?;
+    if end != line.len() {
+        return None;
     }
-    Reading::Is(of_fields(&out))
+    Some(out)
 }

@@ -1,13 +1,11 @@
 // The row writer: a record as a row of a trace, as the house spells it, and how many bytes that is.
 #![tactic(auto)]
 
-ghost use Rattle.std.specs.Prelude.{◌≡◌, ◌∷◌, ◌+◌, ◌/◌, ◌≤◌, length};
-ghost use Rattle.digits.specs.inner.Pairs.{PairsOf};
+ghost use Rattle.std.specs.Prelude.{◌≡◌, ◌∷◌, ◌+◌, ◌≤◌, length};
 ghost use Rattle.base.specs.Spaced.{spaced, joined};
 ghost use Rattle.base.specs.Text.{blank};
 ghost use Rattle.base.specs.inner.Wrote.{Wrote};
 ghost use Rattle.digits.specs.declared.Letters.TheVariants.{Capital};
-ghost use Rattle.digits.specs.inner.Kept.{Kept};
 ghost use Rattle.fields.specs.Columns.{last_number};
 ghost use Rattle.record.specs.Record.{WellFormed};
 ghost use Rattle.row.specs.House.{number_text, offset_text, bus_texts, type_text, id_text, data_texts, frame_texts, row_text};
@@ -15,17 +13,16 @@ ghost use Rattle.row_writer.specs.inner.Parts.{head_texts};
 ghost use Rattle.row.specs.Versions.{Carries};
 
 use base::{put_byte, put_three};
-use digits::{Letters, decimal_length, put_decimal, put_hex, put_kept, put_padded, put_pairs};
+use digits::{Kept, Letters, Pairs, decimal_length, put_decimal, put_hex, put_padded};
 use record::Record;
 use row::{fraction_digits, has_bus};
 
-// Row number and `)`. Its digits before the last are at hand: the first t of `tens`.
-fn put_number(out: &mut [u8], at: usize, k: u64, tens: &[u8; 20], t: usize) -> usize
-    requires k_in_bounds { at + length (number_text k) ≤ length out.old }
-    requires kept { Kept (k / 10) tens.now t }
+// Row number and `)`. Its digits before the last may be kept in `tens`.
+fn put_number(out: &mut [u8], at: usize, k: u64, tens: &Kept) -> usize
+    requires { at + length (number_text k) ≤ length out.old }
     ensures { Wrote out.old out.new at result (number_text k) }
 {
-    let p = put_kept(out, at, k, k / 10, tens, t);
+    let p = tens.put(out, at, k);
     put_byte(out, p, b')')
 }
 
@@ -35,21 +32,13 @@ fn number_length(k: u64) -> usize
     decimal_length(k) + 1
 }
 
-// Offset in milliseconds, with one digit behind the point or three. The digits of its whole seconds are at hand: the first u of `seconds`.
-fn put_offset(
-    out: &mut [u8],
-    at: usize,
-    version: u64,
-    offset: u64,
-    seconds: &[u8; 20],
-    u: usize,
-) -> usize
-    requires offset_in_bounds { at + length (blank ∷ offset_text version offset) ≤ length out.old }
-    requires kept { Kept (offset / 1000 / 1000) seconds.now u }
+// Offset in milliseconds, with one digit after the point or three. The digits of its whole seconds may be kept in `seconds`.
+fn put_offset(out: &mut [u8], at: usize, version: u64, offset: u64, seconds: &Kept) -> usize
+    requires { at + length (blank ∷ offset_text version offset) ≤ length out.old }
     ensures { Wrote out.old out.new at result (blank ∷ offset_text version offset) }
 {
     let p = put_byte(out, at, b' ');
-    let q = put_kept(out, p, offset / 1000, offset / 1000 / 1000, seconds, u);
+    let q = seconds.put(out, p, offset / 1000);
     let s = put_byte(out, q, b'.');
     if fraction_digits(version) == 1 {
         return put_padded(out, s, 1, offset % 1000 / 100);
@@ -84,7 +73,7 @@ fn bus_length(version: u64, bus: u64) -> usize
     0
 }
 
-// `Rx`, `Tx`, `Warng` or `Error`. No branch tells `R` from `T`, which is two behind it: rows mix the two, and a branch that cannot be
+// `Rx`, `Tx`, `Warng` or `Error`. No branch tells `R` from `T`, which is two after it: rows mix the two, and a branch that cannot be
 // predicted is slow.
 fn put_type(out: &mut [u8], at: usize, kind: u64) -> usize
     requires { (kind ≤ 5) × (at + length (blank ∷ type_text kind) ≤ length out.old) }
@@ -134,16 +123,16 @@ fn id_length(r: Record) -> usize
 }
 
 // `RTR` for a remote frame, else the bytes.
-fn put_data(out: &mut [u8], at: usize, r: Record, pairs: &[u8; 512]) -> usize
-    requires len_bound { (r.len ≤ 8) × (at + length (spaced (data_texts r)) ≤ length out.old) }
-    requires pairs_of { PairsOf Capital pairs.now }
+fn put_data(out: &mut [u8], at: usize, r: Record, pairs: &Pairs) -> usize
+    requires in_bounds { (r.len ≤ 8) × (at + length (spaced (data_texts r)) ≤ length out.old) }
+    requires capital { pairs.now.letters ≡ Capital }
     ensures { Wrote out.old out.new at result (spaced (data_texts r)) }
 {
     if r.kind / 2 == 1 {
         let p = put_byte(out, at, b' ');
         return put_three(out, p, b'R', b'T', b'R');
     }
-    put_pairs(out, at, r.len, r.data, pairs)
+    pairs.put(out, at, r.len, r.data)
 }
 
 fn data_length(r: Record) -> usize
@@ -163,25 +152,21 @@ fn put_head(
     version: u64,
     k: u64,
     r: Record,
-    tens: &[u8; 20],
-    t: usize,
-    seconds: &[u8; 20],
-    u: usize,
+    tens: &Kept,
+    seconds: &Kept,
 ) -> usize
-    requires r_in_bounds { at + length (joined (head_texts version k r)) ≤ length out.old }
-    requires kept { Kept (k / 10) tens.now t }
-    requires kept_2 { Kept (r.offset / 1000 / 1000) seconds.now u }
+    requires { at + length (joined (head_texts version k r)) ≤ length out.old }
     ensures { Wrote out.old out.new at result (joined (head_texts version k r)) }
 {
-    let p = put_number(out, at, k, tens, t);
-    let q = put_offset(out, p, version, r.offset, seconds, u);
+    let p = put_number(out, at, k, tens);
+    let q = put_offset(out, p, version, r.offset, seconds);
     put_bus(out, q, version, r.bus)
 }
 
-// The fields from the type on, each behind one blank.
-fn put_frame(out: &mut [u8], at: usize, r: Record, pairs: &[u8; 512]) -> usize
+// The fields from the type on, each after one blank.
+fn put_frame(out: &mut [u8], at: usize, r: Record, pairs: &Pairs) -> usize
     requires well_formed { WellFormed r × (at + length (spaced (frame_texts r)) ≤ length out.old) }
-    requires pairs_of { PairsOf Capital pairs.now }
+    requires capital { pairs.now.letters ≡ Capital }
     ensures { Wrote out.old out.new at result (spaced (frame_texts r)) }
 {
     let p = put_type(out, at, r.kind);
@@ -201,27 +186,23 @@ pub fn row_length(version: u64, k: u64, r: Record) -> usize
     head + frame
 }
 
-// Puts the row with number k and record r in a version at a position, and gives the position after it. Of the row number it takes the
-// digits before the last, of the offset those of its whole seconds, as they were kept from the row before: t and u are how many.
+// Puts the row with number k and record r in a version at a position, and gives the position after it. It is fastest where `tens` keeps the
+// digits of the row number before the last, and `seconds` those of the offset's whole seconds.
 pub fn put_row(
     out: &mut [u8],
     at: usize,
     version: u64,
     k: u64,
     r: Record,
-    tens: &[u8; 20],
-    t: usize,
-    seconds: &[u8; 20],
-    u: usize,
-    pairs: &[u8; 512],
+    tens: &Kept,
+    seconds: &Kept,
+    pairs: &Pairs,
 ) -> usize
     requires well_formed { WellFormed r × Carries r version × (1 ≤ k) × (k ≤ last_number) }
-    requires r_in_bounds { at + length (row_text version k r) ≤ length out.old }
-    requires kept { Kept (k / 10) tens.now t }
-    requires kept_2 { Kept (r.offset / 1000 / 1000) seconds.now u }
-    requires pairs_of { PairsOf Capital pairs.now }
+    requires in_bounds { at + length (row_text version k r) ≤ length out.old }
+    requires capital { pairs.now.letters ≡ Capital }
     ensures { Wrote out.old out.new at result (row_text version k r) }
 {
-    let p = put_head(out, at, version, k, r, tens, t, seconds, u);
+    let p = put_head(out, at, version, k, r, tens, seconds);
     put_frame(out, p, r, pairs)
 }

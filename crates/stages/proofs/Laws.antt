@@ -3,30 +3,24 @@ use Prim.Native.Nat.{ℕ, ◌*◌, ◌-◌, ◌/◌}
 use mathlib.Core.Path.{◌≡◌, refl, sym, subst}
 use mathlib.Core.List.{List}
 use Rattle.digits.specs.Digits.{Hex}
-use Rattle.digits.specs.inner.HexTable.{HexTable}
 use Rattle.fields.specs.declared.Scan.{Scan}
-use Rattle.fields.specs.inner.Window.{Starts}
+use Rattle.fields.specs.inner.Window.{Starts, Taken}
 use Rattle.row.specs.declared.Part.{Part}
 use Rattle.row.specs.declared.Stage.{Stage}
 use Rattle.row.specs.declared.Step.{Step}
 use Rattle.row.specs.inner.Stages.{Steps, Byted, one_byte, plus, continues_at, Continues, good_at, Good}
-use Rattle.row.proofs.Moves.{Got}
 use Rattle.row.proofs.Columns.{behind}
 
 -- One byte more.
-pub byted : (p : Part) {next : Stage} {w : List ℕ} {at : ℕ} {s : Scan} {t : Step} → Got (Hex 2) w at s
+pub byted : (p : Part) {next : Stage} {w : List ℕ} {at : ℕ} {s : Scan} {t : Step} → Taken (Hex 2) w at s
     → t ≡ behind s.end next (p.left - 1) (p.place / 256) (plus p.r (s.value * p.place)) → Byted w at next p t
 byted p g e = rw e (one_byte g.there g.place g.has refl)
 
 -- An arm of `take_field`: the state stands at the stage x.
 module _ (p : Part) {x : Stage} (e : p.stage ≡ x) {w : List ℕ} {at : ℕ} where
   -- what the function of that stage asks
-  pub asked : {hex : List ℕ} → Starts w at × Good p × HexTable hex → Starts w at × good_at x p
+  pub asked : Starts w at × Good p → Starts w at × good_at x p
   asked h = (h.0, subst (λ (y : Stage). good_at y p) e h.1)
-
-  -- and with the table, where its field has hexadecimal digits
-  pub asked_hex : {hex : List ℕ} → Starts w at × Good p × HexTable hex → Starts w at × good_at x p × HexTable hex
-  asked_hex h = (h.0, (asked h).1, h.2)
 
   -- what it promises
   pub answered : {t : Step} → Steps w at (continues_at x p) t → Steps w at (Continues p) t

@@ -1,24 +1,23 @@
 // An error frame, from its ID on: the ID, length 4, 0 or 1, a position, then two error counters.
-ghost use Rattle.digits.specs.inner.HexTable.{HexTable};
 ghost use Rattle.fields.specs.inner.Window.{Starts};
 ghost use Rattle.row.specs.declared.Stage.TheVariants as stage;
 ghost use Rattle.row.specs.inner.Stages.{Steps, continues_at, good_at};
 
 use crate::step::{bytes_left, known, wrong};
+use digits::HexDigits;
 use fields::WINDOW;
 use row::{FIRST_PLACE, Part, SECOND_PLACE, Stage, Step, THIRD_PLACE};
 
 // The ID.
-pub fn error_id(w: &[u8; WINDOW], at: usize, hex: &[u8; 256], p: Part) -> Step
-    requires { Starts w.now at × good_at stage.ErrorId p × HexTable hex.now }
+pub fn error_id(w: &[u8; WINDOW], at: usize, hex: &HexDigits, p: Part) -> Step
+    requires { Starts w.now at × good_at stage.ErrorId p }
     ensures { Steps w.now at (continues_at stage.ErrorId p) result }
 {
     let mut r = p.r;
-    let s = fields::hex_field(w, at, hex);
-    let e = s.end;
-    if e == 0 {
+    let Some(s) = fields::hex_field(w, at, hex) else {
         return wrong(r);
-    }
+    };
+    let e = s.end;
     if e - at != 4 {
         return wrong(r);
     }
@@ -36,11 +35,10 @@ pub fn error_length(w: &[u8; WINDOW], at: usize, p: Part) -> Step
     ensures { Steps w.now at (continues_at stage.ErrorLength p) result }
 {
     let mut r = p.r;
-    let s = fields::length_field(w, at);
-    let e = s.end;
-    if e == 0 {
+    let Some(s) = fields::length_field(w, at) else {
         return wrong(r);
-    }
+    };
+    let e = s.end;
     if s.value != 4 {
         return wrong(r);
     }
@@ -50,16 +48,15 @@ pub fn error_length(w: &[u8; WINDOW], at: usize, p: Part) -> Step
 }
 
 // The first byte: 0 or 1.
-pub fn error_first(w: &[u8; WINDOW], at: usize, hex: &[u8; 256], p: Part) -> Step
-    requires { Starts w.now at × good_at stage.ErrorFirst p × HexTable hex.now }
+pub fn error_first(w: &[u8; WINDOW], at: usize, hex: &HexDigits, p: Part) -> Step
+    requires { Starts w.now at × good_at stage.ErrorFirst p }
     ensures { Steps w.now at (continues_at stage.ErrorFirst p) result }
 {
     let mut r = p.r;
-    let s = fields::byte_field(w, at, hex);
-    let e = s.end;
-    if e == 0 {
+    let Some(s) = fields::byte_field(w, at, hex) else {
         return wrong(r);
-    }
+    };
+    let e = s.end;
     if 1 < s.value {
         return wrong(r);
     }
@@ -68,16 +65,15 @@ pub fn error_first(w: &[u8; WINDOW], at: usize, hex: &[u8; 256], p: Part) -> Ste
 }
 
 // The second byte: a position. Two bytes are left.
-pub fn error_second(w: &[u8; WINDOW], at: usize, hex: &[u8; 256], p: Part) -> Step
-    requires { Starts w.now at × good_at stage.ErrorSecond p × HexTable hex.now }
+pub fn error_second(w: &[u8; WINDOW], at: usize, hex: &HexDigits, p: Part) -> Step
+    requires { Starts w.now at × good_at stage.ErrorSecond p }
     ensures { Steps w.now at (continues_at stage.ErrorSecond p) result }
 {
     let mut r = p.r;
-    let s = fields::byte_field(w, at, hex);
-    let e = s.end;
-    if e == 0 {
+    let Some(s) = fields::byte_field(w, at, hex) else {
         return wrong(r);
-    }
+    };
+    let e = s.end;
     if !record::position(s.value) {
         return wrong(r);
     }

@@ -1,30 +1,28 @@
 // A frame, from its ID on: the ID, the length, then as many data bytes or `RTR`.
 ghost use Rattle.std.specs.Prelude.{◌+◌, ◌*◌, ◌^◌, ◌≤◌, ◌≢◌};
-ghost use Rattle.digits.specs.inner.HexTable.{HexTable};
 ghost use Rattle.fields.specs.inner.Window.{Starts};
 ghost use Rattle.row.specs.declared.Stage.TheVariants as stage;
 ghost use Rattle.row.specs.inner.Stages.{Steps, Byted, continues_at, good_at};
 
 use crate::step::{bytes_left, known, wrong};
+use digits::HexDigits;
 use fields::WINDOW;
 use row::{FIRST_PLACE, Part, Stage, Step, form};
 
 // The ID: its width says whether it is extended.
-pub fn id(w: &[u8; WINDOW], at: usize, hex: &[u8; 256], p: Part) -> Step
-    requires { Starts w.now at × good_at stage.Id p × HexTable hex.now }
+pub fn id(w: &[u8; WINDOW], at: usize, hex: &HexDigits, p: Part) -> Step
+    requires { Starts w.now at × good_at stage.Id p }
     ensures { Steps w.now at (continues_at stage.Id p) result }
 {
     let mut r = p.r;
-    let s = fields::hex_field(w, at, hex);
+    let Some(s) = fields::hex_field(w, at, hex) else {
+        return wrong(r);
+    };
     let e = s.end;
-    if e == 0 {
+    let Some(extended) = form(e - at, s.value) else {
         return wrong(r);
-    }
-    let x = form(e - at, s.value);
-    if 1 < x {
-        return wrong(r);
-    }
-    r.extended = x;
+    };
+    r.extended = extended;
     r.id = s.value;
     known(e, Stage::Length, r)
 }
@@ -35,27 +33,24 @@ pub fn length(w: &[u8; WINDOW], at: usize, p: Part) -> Step
     ensures { Steps w.now at (continues_at stage.Length p) result }
 {
     let mut r = p.r;
-    let s = fields::length_field(w, at);
-    let e = s.end;
-    if e == 0 {
+    let Some(s) = fields::length_field(w, at) else {
         return wrong(r);
-    }
+    };
+    let e = s.end;
     r.len = s.value;
     bytes_left(e, Stage::Data, s.value, FIRST_PLACE, r)
 }
 
 // `RTR`, or the first data byte.
-pub fn data(w: &[u8; WINDOW], at: usize, hex: &[u8; 256], p: Part) -> Step
-    requires { Starts w.now at × good_at stage.Data p × HexTable hex.now }
+pub fn data(w: &[u8; WINDOW], at: usize, hex: &HexDigits, p: Part) -> Step
+    requires { Starts w.now at × good_at stage.Data p }
     ensures { Steps w.now at (continues_at stage.Data p) result }
 {
     let left = p.left;
     let mut r = p.r;
-    let s = fields::remote_field(w, at);
-    let e = s.end;
-    if e != 0 {
+    if let Some(s) = fields::remote_field(w, at) {
         r.kind += 2;
-        return known(e, Stage::Bytes, r);
+        return known(s.end, Stage::Bytes, r);
     }
     if left == 0 {
         return wrong(r);
@@ -64,8 +59,8 @@ pub fn data(w: &[u8; WINDOW], at: usize, hex: &[u8; 256], p: Part) -> Step
 }
 
 // A data byte, if one is left.
-pub fn bytes(w: &[u8; WINDOW], at: usize, hex: &[u8; 256], p: Part) -> Step
-    requires { Starts w.now at × good_at stage.Bytes p × HexTable hex.now }
+pub fn bytes(w: &[u8; WINDOW], at: usize, hex: &HexDigits, p: Part) -> Step
+    requires { Starts w.now at × good_at stage.Bytes p }
     ensures { Steps w.now at (continues_at stage.Bytes p) result }
 {
     let left = p.left;
@@ -77,18 +72,17 @@ pub fn bytes(w: &[u8; WINDOW], at: usize, hex: &[u8; 256], p: Part) -> Step
 }
 
 // One data byte more.
-pub fn byte(w: &[u8; WINDOW], at: usize, hex: &[u8; 256], next: Stage, p: Part) -> Step
-    requires { Starts w.now at × (p.left ≢ 0) × (p.r.«data» + 256 * p.place ≤ 256 ^ 8) × HexTable hex.now }
+pub fn byte(w: &[u8; WINDOW], at: usize, hex: &HexDigits, next: Stage, p: Part) -> Step
+    requires { Starts w.now at × (p.left ≢ 0) × (p.r.«data» + 256 * p.place ≤ 256 ^ 8) }
     ensures { Byted w.now at next p result }
 {
     let left = p.left;
     let place = p.place;
     let mut r = p.r;
-    let s = fields::byte_field(w, at, hex);
-    let e = s.end;
-    if e == 0 {
+    let Some(s) = fields::byte_field(w, at, hex) else {
         return wrong(r);
-    }
+    };
+    let e = s.end;
     r.data += s.value * place;
     bytes_left(e, next, left - 1, place / 256, r)
 }

@@ -32,11 +32,10 @@ pub fn take_number(w: &[u8; WINDOW], at: usize, version: u64, k: u64) -> Step
     ensures { Steps w.now at (λ fs r. RowFields version k r fs) result }
 {
     let r = no_record();
-    let s = fields::number_field(w, at);
-    let e = s.end;
-    if e == 0 {
+    let Some(s) = fields::number_field(w, at) else {
         return wrong(r);
-    }
+    };
+    let e = s.end;
     if s.value != k {
         return wrong(r);
     }
@@ -49,11 +48,10 @@ pub fn offset(w: &[u8; WINDOW], at: usize, version: u64, p: Part) -> Step
     ensures { Steps w.now at (continues_at (stage.Offset version) p) result }
 {
     let mut r = p.r;
-    let s = fields::offset_field(w, at, fraction_digits(version));
-    let e = s.end;
-    if e == 0 {
+    let Some(s) = fields::offset_field(w, at, fraction_digits(version)) else {
         return wrong(r);
-    }
+    };
+    let e = s.end;
     r.offset = s.value;
     if has_bus(version) {
         return known(e, Stage::Bus, r);
@@ -68,11 +66,10 @@ pub fn bus(w: &[u8; WINDOW], at: usize, p: Part) -> Step
     ensures { Steps w.now at (continues_at stage.Bus p) result }
 {
     let mut r = p.r;
-    let s = fields::bus_field(w, at);
-    let e = s.end;
-    if e == 0 {
+    let Some(s) = fields::bus_field(w, at) else {
         return wrong(r);
-    }
+    };
+    let e = s.end;
     r.bus = s.value;
     known(e, Stage::TypeColumn, r)
 }
@@ -83,11 +80,10 @@ pub fn type_column(w: &[u8; WINDOW], at: usize, p: Part) -> Step
     ensures { Steps w.now at (continues_at stage.TypeColumn p) result }
 {
     let mut r = p.r;
-    let s = fields::type_field(w, at);
-    let e = s.end;
-    if e == 0 {
+    let Some(s) = fields::type_field(w, at) else {
         return wrong(r);
-    }
+    };
+    let e = s.end;
     let m = s.value;
     if m <= 1 {
         r.kind = m;

@@ -1,4 +1,4 @@
-// Steps through the columns of a row, one field at a time and by value: what is known behind a field goes in and comes out as a `Part`. A file
+// Steps through the columns of a row, one field at a time and by value: what is known after a field goes in and comes out as a `Part`. A file
 // for each kind of row (`head`, then `frame`, `warning` or `error`) has a function for each stage.
 #![tactic(auto)]
 
@@ -8,10 +8,10 @@ mod head;
 mod step;
 mod warning;
 
-ghost use Rattle.digits.specs.inner.HexTable.{HexTable};
 ghost use Rattle.fields.specs.inner.Window.{Starts};
 ghost use Rattle.row.specs.inner.Stages.{Steps, EndsRow, Continues, Good};
 
+use digits::HexDigits;
 use error::{error_first, error_id, error_length, error_second};
 use fields::WINDOW;
 use frame::{bytes, data, id, length};
@@ -20,9 +20,9 @@ use head::{bus, offset, type_column};
 use row::{Part, Stage, Step};
 use warning::{warning_bytes, warning_id, warning_length};
 
-// One field behind the row number, whatever the stage.
-pub fn take_field(w: &[u8; WINDOW], at: usize, hex: &[u8; 256], p: Part) -> Step
-    requires { Starts w.now at × Good p × HexTable hex.now }
+// One field after the row number, whatever the stage.
+pub fn take_field(w: &[u8; WINDOW], at: usize, hex: &HexDigits, p: Part) -> Step
+    requires { Starts w.now at × Good p }
     ensures { Steps w.now at (Continues p) result }
 {
     let stage = p.stage;

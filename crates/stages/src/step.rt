@@ -4,7 +4,7 @@ ghost use Rattle.std.specs.Prelude.{◌≡◌};
 use record::Record;
 use row::{Part, Stage, Step};
 
-// What is known behind a field.
+// What is known after a field.
 pub fn known(at: usize, stage: Stage, r: Record) -> Step
     ensures { result ≡ record { at = at; part = record { stage = stage; left = 0; place = 0; r = r } } }
 {

@@ -1,25 +1,24 @@
 // A warning, from its ID on: eight F, length 4, four bytes, then any number of words, ignored.
-ghost use Rattle.digits.specs.inner.HexTable.{HexTable};
 ghost use Rattle.fields.specs.inner.Window.{Starts};
 ghost use Rattle.row.specs.declared.Stage.TheVariants as stage;
 ghost use Rattle.row.specs.inner.Stages.{Steps, continues_at, good_at};
 
 use crate::frame::byte;
 use crate::step::{bytes_left, known, wrong};
+use digits::HexDigits;
 use fields::WINDOW;
 use row::{FIRST_PLACE, Part, Stage, Step};
 
 // The eight F.
-pub fn warning_id(w: &[u8; WINDOW], at: usize, hex: &[u8; 256], p: Part) -> Step
-    requires { Starts w.now at × good_at stage.WarningId p × HexTable hex.now }
+pub fn warning_id(w: &[u8; WINDOW], at: usize, hex: &HexDigits, p: Part) -> Step
+    requires { Starts w.now at × good_at stage.WarningId p }
     ensures { Steps w.now at (continues_at stage.WarningId p) result }
 {
     let mut r = p.r;
-    let s = fields::hex_field(w, at, hex);
-    let e = s.end;
-    if e == 0 {
+    let Some(s) = fields::hex_field(w, at, hex) else {
         return wrong(r);
-    }
+    };
+    let e = s.end;
     if e - at != 8 {
         return wrong(r);
     }
@@ -39,20 +38,19 @@ pub fn warning_length(w: &[u8; WINDOW], at: usize, p: Part) -> Step
     ensures { Steps w.now at (continues_at stage.WarningLength p) result }
 {
     let r = p.r;
-    let s = fields::length_field(w, at);
-    let e = s.end;
-    if e == 0 {
+    let Some(s) = fields::length_field(w, at) else {
         return wrong(r);
-    }
+    };
+    let e = s.end;
     if s.value != 4 {
         return wrong(r);
     }
     bytes_left(e, Stage::WarningBytes, 4, FIRST_PLACE, r)
 }
 
-// A data byte, and behind the last any word.
-pub fn warning_bytes(w: &[u8; WINDOW], at: usize, hex: &[u8; 256], p: Part) -> Step
-    requires { Starts w.now at × good_at stage.WarningBytes p × HexTable hex.now }
+// A data byte, and after the last any word.
+pub fn warning_bytes(w: &[u8; WINDOW], at: usize, hex: &HexDigits, p: Part) -> Step
+    requires { Starts w.now at × good_at stage.WarningBytes p }
     ensures { Steps w.now at (continues_at stage.WarningBytes p) result }
 {
     let left = p.left;
@@ -61,10 +59,9 @@ pub fn warning_bytes(w: &[u8; WINDOW], at: usize, hex: &[u8; 256], p: Part) -> S
     if left != 0 {
         return byte(w, at, hex, Stage::WarningBytes, p);
     }
-    let s = fields::word_field(w, at);
-    let e = s.end;
-    if e == 0 {
+    let Some(s) = fields::word_field(w, at) else {
         return wrong(r);
-    }
+    };
+    let e = s.end;
     bytes_left(e, Stage::WarningBytes, 0, place, r)
 }

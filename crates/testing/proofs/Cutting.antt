@@ -1,4 +1,4 @@
--- A line cut at the first of a byte, and words behind words.
+-- A line cut at the first of a byte, and words after words.
 use Prim.Native.Nat.{ℕ, zero, suc, ◌+◌, ◌*◌, ◌-◌, ◌≤◌, ◌<◌, suc-le-suc}
 use mathlib.Core.Path.{◌≡◌, refl, ap, sym, ◌∙◌}
 use mathlib.Core.Logic.{◌≢◌}
@@ -10,8 +10,11 @@ use borrow.Author.Count.{below_more}
 use borrow.Author.Tests.{eq-eqb, ne_eqb}
 use lib.ListN.{length, get_or, take, drop, set, length-drop, drop_of_length-le}
 use lib.Seq.{get_or-drop, get_or-set_same, get_or-set_other, drop-drop, take_all}
+use Rattle.std.specs.Prelude.{Option, Some, None}
+use Rattle.std.specs.Option.{unwrap_or}
+use Rattle.base.specs.inner.Answers.{Answers}
 use Rattle.digits.proofs.Strings.{System}
-use Rattle.testing.specs.Words.{FirstFrom, before, behind, skipped, Letter}
+use Rattle.testing.specs.Words.{FirstFrom, before, behind, skipped, Or0, is, none, Letter}
 
 -- A part that goes on to the end.
 pub to_end : (s : List ℕ) (i : ℕ) → take (length s - i) (drop i s) ≡ drop i s
@@ -43,7 +46,7 @@ module _ {b : ℕ} where
       (λ j. rw (get_or-drop, g) (f.found (omega arith))) in
       (c.0, sym (drop-drop (suc (r - at)) at s ∙ rw n) ∙ c.1)
 
-  -- no b is left: nothing stands behind it
+  -- no b is left: nothing stands after it
   pub cut_end : {s : List ℕ} {at r : ℕ} → FirstFrom s at b r → length s ≤ r → drop r s ≡ behind b (drop at s)
   cut_end {s} {at} {r} f h =
       let k : length s ≤ r + 1 = omega arith in
@@ -54,7 +57,7 @@ pub passed_more : (s : List ℕ) (at b i : ℕ) → ((k : ℕ) → at ≤ k → 
     → (k : ℕ) → at ≤ k → k < i + 1 → get_or s k 0 ≢ b
 passed_more s at b i p n k h l = below_more (λ (j : ℕ). at ≤ j → get_or s j 0 ≢ b) i (λ j m q. p j q m) (λ q. n) k l h
 
--- Blanks behind blanks.
+-- Blanks after blanks.
 pub none_skipped : (s : List ℕ) → skipped 0 s ≡ s
 unfolding skipped
 none_skipped s = refl
@@ -82,3 +85,8 @@ step_on m k n = rw (add-mul, one-mul, add_assoc)
 -- Bytes are digits of base 256.
 pub letters : System Letter 256
 letters = record { small = λ p. p.small; one = λ p q. p.same ∙ sym q.same }
+
+-- A number that is found, or 0.
+pub or_0 : {P : ℕ → Type 0} (r : Option ℕ) → Answers P r → Or0 P (unwrap_or r 0)
+or_0 (Some n) p = is p
+or_0 None f = none f refl

@@ -1,4 +1,4 @@
--- What is put, put together: nothing, some bytes, and more behind them.
+-- What is put, put together: nothing, some bytes, and more after them.
 use Prim.Native.Nat.{ℕ, ◌+◌, ◌≤◌}
 use mathlib.Core.Path.{◌≡◌, refl}
 use mathlib.Core.List.{List, [], ◌++◌}

@@ -23,7 +23,7 @@ pub before_is_nothing : before blank (text "ab cd") ≡ [] → ⊥
 unfolding before
 before_is_nothing e = omega (arith, ap length e)
 
--- nothing, where something stands behind it
+-- nothing, where something stands after it
 pub behind_is_nothing : behind blank (text "ab cd") ≡ [] → ⊥
 unfolding behind
 behind_is_nothing e = omega (arith, ap length e)
@@ -39,7 +39,7 @@ front_is_nothing e = omega (arith, ap length e)
 pub front_one_more : take 1 (text "ab") ≡ text "ab" → ⊥
 front_one_more e = omega (arith, ap length e)
 
--- a number behind a capital X, and none behind a small x
+-- a number after a capital X, and none after a small x
 pub capital_x : {s : List ℕ} {v : ℕ} → 0 < v → ValueOf (88 ∷ s) v → ⊥
 capital_x p (hexadecimal e h) = let z : ◌≡◌ {A = ℕ} 88 120 = cc in omega arith
 capital_x p (decimal n (is_none m e)) = omega arith

@@ -1,4 +1,4 @@
--- The parts of a line: what stands before a byte, what stands behind it, its words and the numbers that they are.
+-- The parts of a line: what stands before a byte, what stands after it, its words and the numbers that they are.
 use Rattle.std.specs.Prelude.{ℕ, zero, suc, ◌≤◌, ◌<◌, ◌≡◌, ◌≢◌, cond, List, [], ◌∷◌, eqb, length, get_or}
 use Rattle.digits.specs.inner.Answer.{ReadDecimal, ReadHex}
 use Rattle.digits.specs.Digits.{Digits}
@@ -15,17 +15,17 @@ unfoldable pub before : ℕ → List ℕ → List ℕ
 before b [] = []
 before b (x ∷ s) = cond (eqb x b) [] (x ∷ before b s)
 
--- What stands behind the first byte b, or nothing.
+-- What stands after the first byte b, or nothing.
 unfoldable pub behind : ℕ → List ℕ → List ℕ
 behind b [] = []
 behind b (x ∷ s) = cond (eqb x b) s (behind b s)
 
--- What stands behind n blanks.
+-- What stands after n blanks.
 unfoldable pub skipped : ℕ → List ℕ → List ℕ
 skipped zero s = s
 skipped (suc n) s = behind 32 (skipped n s)
 
--- The word behind n blanks.
+-- The word after n blanks.
 abbrev pub word : ℕ → List ℕ → List ℕ
 word n s = before 32 (skipped n s)
 
@@ -34,7 +34,7 @@ pub data Or0 (P : ℕ → Type 0) (v : ℕ) : Type 0 where
   is : P v → Or0 P v
   none : ((n : ℕ) → P n → ⊥) → v ≡ 0 → Or0 P v
 
--- The number that a word is: behind an x in hexadecimal, otherwise in decimal; 0 where it is none.
+-- The number that a word is: after an x in hexadecimal, otherwise in decimal; 0 where it is none.
 pub data ValueOf (s : List ℕ) (v : ℕ) : Type 0 where
   hexadecimal : {t : List ℕ} → s ≡ 120 ∷ t → Or0 (ReadHex t) v → ValueOf s v
   decimal : ((t : List ℕ) → s ≢ 120 ∷ t) → Or0 (ReadDecimal s) v → ValueOf s v

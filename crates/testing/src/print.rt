@@ -1,4 +1,4 @@
-// How answers are printed: numbers and bytes behind a blank each, texts in one line.
+// How answers are printed: numbers and bytes after a blank each, texts in one line.
 use crate::words::front;
 use std::io;
 
@@ -7,8 +7,7 @@ pub fn text(rt: &impl Print, s: &[u8]) -> io::Result<()> {
 }
 
 pub fn byte(rt: &impl Print, b: u8) -> io::Result<()> {
-    let one = [b];
-    text(rt, &one)
+    text(rt, &[b])
 }
 
 pub fn number(rt: &impl Print, n: u64) -> io::Result<()> {
@@ -29,17 +28,11 @@ pub fn bytes(rt: &impl Print, s: &[u8]) -> io::Result<()> {
     Ok(())
 }
 
-// A backslash and a letter.
-fn escape(rt: &impl Print, b: u8) -> io::Result<()> {
-    byte(rt, b'\\')?;
-    byte(rt, b)
-}
-
 // A byte of a text: CR, LF and what is no printable letter as they are written in a case.
 fn letter(rt: &impl Print, b: u8) -> io::Result<()> {
     match b {
-        b'\r' => escape(rt, b'r'),
-        b'\n' => escape(rt, b'n'),
+        b'\r' => text(rt, b"\\r"),
+        b'\n' => text(rt, b"\\n"),
         b' '..=b'~' => byte(rt, b),
         _ => print!(rt; "\\x{b:02x}"),
     }
@@ -59,24 +52,13 @@ pub fn shown(rt: &impl Print, s: &[u8]) -> io::Result<()> {
         return letters(rt, s);
     }
     letters(rt, &s[0..60])?;
-    byte(rt, b'.')?;
-    number(rt, n as u64)?;
-    byte(rt, b' ')?;
-    byte(rt, b'.')?;
-    let last = n - 60;
-    letters(rt, &s[last..n])
+    print!(rt; ". {n} .")?;
+    letters(rt, &s[n - 60..])
 }
 
 // Whether the bytes from a place on are those that every output has at first.
 fn untouched(out: &[u8], from: usize) -> bool {
-    let mut i = from;
-    while i < out.len() {
-        if out[i] != 238 {
-            return false;
-        }
-        i += 1;
-    }
-    true
+    out.iter().skip(from).all(|b| *b == 238)
 }
 
 // The end of an answer: whether the output is untouched from a place on.
@@ -87,7 +69,7 @@ pub fn rest(rt: &impl Print, out: &[u8], from: usize) -> io::Result<()> {
     text(rt, b" touched")
 }
 
-// An output: its first n bytes as a text, and whether it is untouched behind them.
+// An output: its first n bytes as a text, and whether it is untouched after them.
 pub fn output(rt: &impl Print, out: &[u8], n: usize) -> io::Result<()> {
     byte(rt, b' ')?;
     shown(rt, front(out, n))?;

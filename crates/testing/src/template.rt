@@ -1,21 +1,18 @@
 // Lines that take the number of a case: `#` stands for it in decimal, `@` in two hexadecimal digits, `?` in four, `!` in eight, `^` for so many data
-// bytes (01, 02, ..), `_` for so many blanks, `*` for so many times the byte behind it, and `%` for a text that is given beside the line. A backslash
+// bytes (01, 02, ..), `_` for so many blanks, `*` for so many times the byte after it, and `%` for a text that is given beside the line. A backslash
 // begins an escape. Nothing is put where there is no room.
 ghost use Rattle.testing.specs.Putting.{PutOrNot, Puts};
 
 use crate::words::find;
 use base::{put_byte, put_text};
 use digits::{Letters, decimal_length, put_decimal, put_hex};
-use escapes::{NOTHING, after, ended};
+use escapes::{Begun, after, ended};
 
 // Puts some bytes at a position, and gives the position after them.
 pub fn put(out: &mut [u8], at: usize, s: &[u8]) -> usize
     ensures { PutOrNot out.old out.new at result s.now }
 {
-    if out.len() < at {
-        return at;
-    }
-    if out.len() - at < s.len() {
+    if out.len() < at || out.len() - at < s.len() {
         return at;
     }
     put_text(out, at, s)
@@ -33,10 +30,7 @@ fn put_one(out: &mut [u8], at: usize, b: u8) -> usize
 fn decimal(out: &mut [u8], at: usize, n: u64) -> usize
     ensures { Puts out.old out.new at result }
 {
-    if out.len() < at {
-        return at;
-    }
-    if out.len() - at < decimal_length(n) {
+    if out.len() < at || out.len() - at < decimal_length(n) {
         return at;
     }
     put_decimal(out, at, n)
@@ -45,10 +39,7 @@ fn decimal(out: &mut [u8], at: usize, n: u64) -> usize
 fn hexadecimal(out: &mut [u8], at: usize, width: usize, n: u64) -> usize
     ensures { Puts out.old out.new at result }
 {
-    if out.len() < at {
-        return at;
-    }
-    if out.len() - at < width {
+    if out.len() < at || out.len() - at < width {
         return at;
     }
     put_hex(out, at, width, n, Letters::Capital)
@@ -59,22 +50,18 @@ fn repeated(out: &mut [u8], at: usize, b: u8, n: u64) -> usize
     ensures { Puts out.old out.new at result }
 {
     let mut p = at;
-    let mut i = 0;
-    while i < n {
+    for _ in 0..n {
         p = put_one(out, p, b);
-        i += 1;
     }
     p
 }
 
-// Puts n data bytes, each behind a blank.
+// Puts n data bytes, each after a blank.
 fn data(out: &mut [u8], at: usize, n: u64) -> usize
     ensures { Puts out.old out.new at result }
 {
     let mut p = at;
-    let mut i = 0;
-    while i < n {
-        i += 1;
+    for i in 1..=n {
         p = put_one(out, p, b' ');
         p = hexadecimal(out, p, 2, i);
     }
@@ -97,14 +84,14 @@ fn alone(out: &mut [u8], at: usize, b: u8, n: u64) -> usize
     }
 }
 
-// Puts what a byte of a line stands for behind others: what was begun by them, and a star if the last of them is one.
-fn next(out: &mut [u8], at: usize, begun: u64, star: bool, b: u8, n: u64) -> usize
+// Puts what a byte of a line stands for after others: what was begun by them, and a star if the last of them is one.
+fn next(out: &mut [u8], at: usize, begun: Begun, star: bool, b: u8, n: u64) -> usize
     ensures { Puts out.old out.new at result }
 {
-    if after(begun, b) != NOTHING {
+    if after(begun, b) != Begun::Nothing {
         return at;
     }
-    if begun != NOTHING {
+    if begun != Begun::Nothing {
         return put_one(out, at, ended(begun, b));
     }
     if star {
@@ -114,11 +101,8 @@ fn next(out: &mut [u8], at: usize, begun: u64, star: bool, b: u8, n: u64) -> usi
 }
 
 // Whether a byte of a line makes the next one stand so many times.
-fn is_star(begun: u64, b: u8) -> bool {
-    if begun == NOTHING {
-        return b == b'*';
-    }
-    false
+fn is_star(begun: Begun, b: u8) -> bool {
+    begun == Begun::Nothing && b == b'*'
 }
 
 // Puts a line without `%`, and gives the position after it.
@@ -126,15 +110,12 @@ fn plain(out: &mut [u8], at: usize, line: &[u8], n: u64) -> usize
     ensures { Puts out.old out.new at result }
 {
     let mut p = at;
-    let mut begun = NOTHING;
+    let mut begun = Begun::Nothing;
     let mut star = false;
-    let mut i = 0;
-    while i < line.len() {
-        let b = line[i];
-        p = next(out, p, begun, star, b, n);
-        star = is_star(begun, b);
-        begun = after(begun, b);
-        i += 1;
+    for b in line {
+        p = next(out, p, begun, star, *b, n);
+        star = is_star(begun, *b);
+        begun = after(begun, *b);
     }
     p
 }
@@ -145,6 +126,7 @@ pub fn fill(out: &mut [u8], line: &[u8], n: u64, given: &[u8]) -> usize
 {
     let mut p = 0;
     let mut at = 0;
+    // No `split`: after a `%` at the end nothing more is put, and between two of them `given` is.
     while at < line.len() {
         let end = find(line, at, b'%');
         p = plain(out, p, &line[at..end], n);

@@ -1,24 +1,21 @@
-// The parts of a line: what stands before a byte, what stands behind it, and the numbers among its words.
+// The parts of a line: what stands before a byte, what stands after it, and the numbers among its words.
 ghost use Rattle.std.specs.Prelude.{◌≡◌, ℕ, ◌+◌, ◌*◌, ◌≤◌, ◌<◌, length, get_or, take, drop};
-ghost use Rattle.digits.specs.inner.Answer.{ReadDecimal, ReadHex};
-ghost use Rattle.testing.specs.Words.{FirstFrom, before, behind, skipped, word, Or0, ValueOf, KeyOf};
+ghost use Rattle.testing.specs.Words.{FirstFrom, before, behind, skipped, word, ValueOf, KeyOf};
 
 use base::wide;
-use digits::{Number, read_decimal, read_hex};
+use digits::{read_decimal, read_hex};
 
 // The first place of a byte from a place on, or the end.
 pub fn find(s: &[u8], at: usize, b: u8) -> usize
     requires { at ≤ length s.now }
     ensures { FirstFrom s.now at b result }
 {
-    let mut i = at;
-    while i < s.len() {
+    for i in at..s.len() {
         if s[i] == b {
             return i;
         }
-        i += 1;
     }
-    i
+    s.len()
 }
 
 // What stands before the first of a byte, or all.
@@ -26,62 +23,34 @@ pub fn before(s: &[u8], b: u8) -> &[u8]
     ensures { result.now ≡ before b s.now }
 {
     let i = find(s, 0, b);
-    &s[0..i]
+    &s[..i]
 }
 
-// What stands behind the first of a byte, or nothing.
+// What stands after the first of a byte, or nothing.
 pub fn behind(s: &[u8], b: u8) -> &[u8]
     ensures { result.now ≡ behind b s.now }
 {
     let i = find(s, 0, b);
-    if i < s.len() {
-        let next = i + 1;
-        return &s[next..];
-    }
-    &s[i..]
+    if i < s.len() { &s[i + 1..] } else { &s[i..] }
 }
 
-fn hexadecimal(s: &[u8]) -> u64
-    ensures { Or0 (ReadHex s.now) result }
-{
-    match read_hex(s) {
-        Number::Value(v) => v,
-        Number::Not => 0,
-    }
-}
-
-fn decimal(s: &[u8]) -> u64
-    ensures { Or0 (ReadDecimal s.now) result }
-{
-    match read_decimal(s) {
-        Number::Value(v) => v,
-        Number::Not => 0,
-    }
-}
-
-// A number in decimal, or behind an x in hexadecimal.
+// A number in decimal, or after an x in hexadecimal; 0 where it is none.
 pub fn value(s: &[u8]) -> u64
     ensures { ValueOf s.now result }
 {
-    if s.len() == 0 {
-        return decimal(s);
+    match s {
+        [b'x', digits @ ..] => read_hex(digits).unwrap_or(0),
+        _ => read_decimal(s).unwrap_or(0),
     }
-    if s[0] != b'x' {
-        return decimal(s);
-    }
-    hexadecimal(&s[1..])
 }
 
-// The place behind the next blank, or the end.
+// The place after the next blank, or the end.
 fn next_word(s: &[u8], at: usize) -> usize
     requires { at ≤ length s.now }
     ensures { (result ≤ length s.now) × (drop result s.now ≡ behind 32 (drop at s.now)) }
 {
     let i = find(s, at, b' ');
-    if i < s.len() {
-        return i + 1;
-    }
-    i
+    if i < s.len() { i + 1 } else { i }
 }
 
 fn value_at(s: &[u8], at: usize) -> u64
@@ -98,25 +67,21 @@ fn skip(s: &[u8], at: usize, words: usize) -> usize
     ensures { (result ≤ length s.now) × (drop result s.now ≡ skipped words (drop at s.now)) }
 {
     let mut p = at;
-    let mut i = 0;
-    while i < words {
+    for _ in 0..words {
         p = next_word(s, p);
-        i += 1;
     }
     p
 }
 
-// Nine numbers among the words of a line: that of the word behind the first so many, and so on by steps. What is not there is 0.
+// Nine numbers among the words of a line: that of the word after the first so many, and so on by steps. What is not there is 0.
 pub fn numbers(s: &[u8], first: usize, step: usize) -> [u64; 9]
     ensures { (k : ℕ) → k < 9 → ValueOf (word (first + k * step) s.now) (get_or result k 0) }
 {
     let mut a = [0u64; 9];
     let mut at = skip(s, 0, first);
-    let mut k = 0;
-    while k < 9 {
+    for k in 0..9 {
         a[k] = value_at(s, at);
         at = skip(s, at, step);
-        k += 1;
     }
     a
 }
@@ -125,10 +90,7 @@ pub fn numbers(s: &[u8], first: usize, step: usize) -> [u64; 9]
 pub fn front(s: &[u8], n: usize) -> &[u8]
     ensures { result.now ≡ take n s.now }
 {
-    if n <= s.len() {
-        return &s[0..n];
-    }
-    s
+    &s[..n.min(s.len())]
 }
 
 // The bytes of a word of at most eight letters as one number.
@@ -139,10 +101,8 @@ pub fn key(word: &[u8]) -> u64
         return 0;
     }
     let mut k = 0;
-    let mut i = 0;
-    while i < word.len() {
-        k = k * 256 + wide(word[i]);
-        i += 1;
+    for b in word {
+        k = k * 256 + wide(*b);
     }
     k
 }

@@ -1,5 +1,6 @@
 -- Lines that are none of Telemotive ASCII, by one of their parts: each is refuted over what such a line is, for every line to which it applies. And wrong
 -- answers of `line_in` and `day_of`.
+use Rattle.std.specs.Prelude.{Some, None}
 use Prim.Native.Nat.{ℕ, ◌+◌, ◌*◌, ◌-◌, ◌≤◌, ◌<◌}
 use mathlib.Core.Path.{◌≡◌, refl, ap, ◌∙◌}
 use mathlib.Core.Logic.{◌≢◌, ◌⊎◌, inl, inr}
@@ -7,6 +8,7 @@ use mathlib.Core.List.{List, [], ◌∷◌, ◌++◌}
 use native.Mathlib.Omega.{arith}
 use lib.ListN.{length}
 use Rattle.base.specs.Text.{text, blank}
+use Rattle.base.specs.inner.Answers.{Answers}
 use Rattle.base.proofs.Numbers.{below_or_not}
 use Rattle.digits.specs.Digits.{Hex}
 use Rattle.digits.specs.House.{figure_of, decimal_text}
@@ -17,7 +19,7 @@ use Rattle.clock.specs.declared.DayTime.{DayTime}
 use Rattle.clock.specs.declared.DateTime.{DateTime}
 use Rattle.clock.specs.Date.{leap, month_days, before, Date, last_day}
 use Rattle.clock.specs.Stamp.{ticks}
-use Rattle.clock.specs.inner.Days.{DayOr, day, none}
+use Rattle.clock.specs.inner.Days.{DayWithin}
 use Rattle.clock.proofs.Calendar.{not_by_4, leap_small, years, last_month, guess}
 use Rattle.clock.proofs.Dates.{one_day, small_day}
 use Rattle.record.specs.declared.Record.{Record}
@@ -28,15 +30,15 @@ use Rattle.row.specs.Row.{Nothing, nothing, ByteFields, done, byte}
 use Rattle.ascii_line.specs.Line.{date_text, time_text, message_type_text, channel_text, direction_text}
 use Rattle.ascii_line_reader.specs.declared.LineRead.{LineRead}
 use Rattle.ascii_line_reader.specs.AsciiLine.{with_offset, AsciiLine}
-use Rattle.ascii_line_reader.specs.inner.Answer.{LineFound, line_found, no_line}
+use Rattle.ascii_line_reader.specs.inner.Answer.{LineFound}
 use Rattle.ascii_line_reader.specs.inner.Columns.{IdPart}
 use Rattle.ascii_line_reader.specs.inner.Frame.{FromType, from_type, from_channel, from_bar, no_word, word, FromDirection, from_direction, from_id, from_length}
 use Rattle.ascii_line_reader.proofs.Columns.{type_one, no_type}
 use Rattle.ascii_line_reader.proofs.One.{next_one, ShortDate, one_date, ShortTime, short_date, short_time}
-use Rattle.ascii_line_reader.proofs.Theorems.{line_one, line_some}
+use Rattle.ascii_line_reader.proofs.Theorems.{line_one}
 use Rattle.ascii_line_reader.proofs.Whole.{line_frame}
 
--- The type says whether an ID is extended, and what stands behind the bar.
+-- The type says whether an ID is extended, and what stands after the bar.
 
 is_standard : {r : Record} {c b : List ℕ} {fs : List (List ℕ)} → FromType r (text "CAN" ∷ c ∷ b ∷ fs) → (r.extended ≡ 0) × FromDirection r fs
 unfolding message_type_text
@@ -53,7 +55,7 @@ is_extended (from_type t (from_channel c (from_bar b (no_word e d)))) =
     let z = type_one {u = 1} t (record { bytes = refl; few = omega arith }) in
     absurd (omega arith)
 
--- The parts behind the bar, and behind `EXTENDED`, of all parts of a line: from the direction on.
+-- The parts after the bar, and after `EXTENDED`, of all parts of a line: from the direction on.
 pub data Behind : ℕ → List (List ℕ) → List (List ℕ) → Type 0 where
   standard : {d t c b : List ℕ} {fs : List (List ℕ)} → Behind 0 fs (d ∷ t ∷ text "CAN" ∷ c ∷ b ∷ fs)
   extended : {d t c b f : List ℕ} {fs : List (List ℕ)} → Behind 1 fs (d ∷ t ∷ text "CANExt" ∷ c ∷ b ∷ f ∷ fs)
@@ -180,7 +182,7 @@ module _ {s : DateTime} {r : Record} {line : List ℕ} where
   -- direction, ID and length
 
   module _ {x : ℕ} {w : List ℕ} {fs all : List (List ℕ)} where
-    -- a direction other than `Rx` and `Tx`, as `RX` and `rx`, or `EXTENDED` behind `CAN`
+    -- a direction other than `Rx` and `Tx`, as `RX` and `rx`, or `EXTENDED` after `CAN`
     pub other_direction : Behind x (w ∷ fs) all → w ≢ type_rx → w ≢ type_tx → Parted all line → AsciiLine s r line → ⊥
     unfolding direction_text
     other_direction b n m p a = go (from_behind b p a).1
@@ -195,7 +197,7 @@ module _ {s : DateTime} {r : Record} {line : List ℕ} where
         go : r.extended ≡ x → FromDirection r (w ∷ i ∷ fs) → IdPart x r.id i
         go e (from_direction d (from_id k l)) = rw e at k
 
-    -- an ID of another width than three digits behind `CAN`, and eight behind `CANExt`
+    -- an ID of another width than three digits after `CAN`, and eight after `CANExt`
     pub other_width : Behind x (w ∷ i ∷ fs) all → length i ≢ 3 + 5 * x → Parted all line → AsciiLine s r line → ⊥
     other_width b n p a = n (id_is b p a).digits.width
 
@@ -233,7 +235,7 @@ module _ {s : DateTime} {r : Record} {line : List ℕ} where
     pub byte_too_few : length fs < n → Parted all line → AsciiLine s r line → ⊥
     byte_too_few h p a = omega (arith, (length_is p a).1)
 
--- a blank before the first part, or behind the last
+-- a blank before the first part, or after the last
 pub blank_first : {s : DateTime} {r : Record} {t : List ℕ} → AsciiLine s r (blank ∷ t) → ⊥
 blank_first {t = t} a = a.apart.first t refl
 
@@ -242,38 +244,32 @@ blank_last t a = a.apart.last t refl
 
 -- line_in
 
-module _ {s : DateTime} {r : Record} {line : List ℕ} {from : ℕ} {x : LineRead} (a : AsciiLine s r line) where
+module _ {s : DateTime} {r : Record} {line : List ℕ} (a : AsciiLine s r line) where
   -- another stamp than the line's, or another frame
-  pub another_stamp : x.ticks ≢ ticks s.time → LineFound line from x → ⊥
-  another_stamp n (line_found b t e) = n (t ∙ ap (λ (d : DateTime). ticks d.time) (line_one b a).0)
-  another_stamp n (no_line e f) = f s r a
+  pub another_stamp : {from : ℕ} {x : LineRead} → x.ticks ≢ ticks s.time → LineFound line from (Some x) → ⊥
+  another_stamp n l = n (l.ticks ∙ ap (λ (d : DateTime). ticks d.time) (line_one l.is a).0)
 
-  pub another_frame : (o : ℕ) → with_offset o x.r ≢ with_offset o r → LineFound line from x → ⊥
-  another_frame o n (line_found b t e) = n ((line_one b a).1 o)
-  another_frame o n (no_line e f) = f s r a
+  pub another_frame : {from : ℕ} {x : LineRead} (o : ℕ) → with_offset o x.r ≢ with_offset o r → LineFound line from (Some x) → ⊥
+  another_frame o n l = n ((line_one l.is a).1 o)
 
   -- a line, said to be none
-  pub line_refused : x.end ≡ 0 → LineFound line from x → ⊥
-  line_refused z (line_found b t e) = omega (arith, line_some a)
-  line_refused z (no_line e f) = f s r a
+  pub line_refused : (from : ℕ) → LineFound line from None → ⊥
+  line_refused from f = f s r a
 
 -- and none, said to be one
-pub no_line_taken : {line : List ℕ} {from : ℕ} {x : LineRead} → ((s : DateTime) (r : Record) → AsciiLine s r line → ⊥) → x.end ≢ 0 → LineFound line from x → ⊥
-no_line_taken {x = x} n d (line_found {d = s} a t e) = n s x.r a
-no_line_taken n d (no_line e f) = d e
+pub no_line_taken : {line : List ℕ} {from : ℕ} {x : LineRead} → ((s : DateTime) (r : Record) → AsciiLine s r line → ⊥) → LineFound line from (Some x) → ⊥
+no_line_taken {x = x} n l = n l.stamp x.r l.is
 
 -- day_of
 
 module _ {d : CalendarDay} where
   -- another day than the date's, none for a date that is a day
-  pub another_day : {m n : ℕ} → Date m d → m ≤ last_day → n ≢ m → DayOr d n → ⊥
-  another_day x l e (day y k) = e (one_day y x)
-  another_day x l e (none z f) = f _ x l
+  pub another_day : {m n : ℕ} → Date m d → m ≤ last_day → n ≢ m → Answers (DayWithin d) (Some n) → ⊥
+  another_day x l e w = e (one_day w.day x)
 
-  pub none_for_a_day : {m : ℕ} → Date m d → m ≤ last_day → DayOr d 100000 → ⊥
-  none_for_a_day x l = another_day x l (λ e. omega arith)
+  pub none_for_a_day : {m : ℕ} → Date m d → m ≤ last_day → Answers (DayWithin d) None → ⊥
+  none_for_a_day x l f = f _ (record { day = x; within = l })
 
   -- and a day for a date that is none
-  pub day_for_none : {n : ℕ} → ((m : ℕ) → Date m d → m ≤ last_day → ⊥) → n ≢ 100000 → DayOr d n → ⊥
-  day_for_none f e (day y k) = f _ y k
-  day_for_none f e (none z g) = e z
+  pub day_for_none : {n : ℕ} → ((m : ℕ) → Date m d → m ≤ last_day → ⊥) → Answers (DayWithin d) (Some n) → ⊥
+  day_for_none f w = f _ w.day w.within

@@ -62,7 +62,7 @@ zero_as_one h b (unexplained u x e) = let z : ◌≡◌ {A = ℕ} 0 30 = cc in o
 zero_as_one {f = f} {fs = fs} {v = v} h b (wrong {i = i} u x w e) = let z : i ≡ 1 = cc in w.none (rw (parted_one w.parted h, z) b)
 zero_as_one h b (early u x w e) = let z : ◌≡◌ {A = ℕ} 1 2 = cc in omega arith
 
--- Behind some fields of a line stands one with which no row goes on: that is the wrong one.
+-- After some fields of a line stands one with which no row goes on: that is the wrong one.
 pub behind : {line : List ℕ} {v k : ℕ} (fs : List (List ℕ)) (f : List ℕ) (gs : List (List ℕ)) → Parted (fs ++ (f ∷ gs)) line → BeginsRow v k fs
     → ((j : ℕ) (r : Record) (hs : List (List ℕ)) → Row.RowFields v j r (fs ++ (f ∷ hs)) → ⊥) → WrongField v k line (length fs + 1)
 behind {v = v} {k = k} fs f gs p b n =

@@ -1,5 +1,6 @@
 -- Wrong channels of the export and of the bench program, for any program: a line on another channel than that of its bus, or than the one given for bus 0;
 -- and 35 where another number is right, or another where 35 is.
+use Rattle.std.specs.Prelude.{Some}
 use Prim.Native.Nat.{ℕ, ◌≤◌, ◌<◌}
 use mathlib.Core.Path.{◌≡◌, refl, ap, sym, ◌∙◌}
 use mathlib.Core.Logic.{◌≢◌}
@@ -29,7 +30,6 @@ use Rattle.ascii.proofs.Channels.{given_channel, own_channel}
 use Rattle.ascii.proofs.Exporting.{exports_one, exports_append}
 use Rattle.convert.specs.Promise.{bench_channel, ConvertPromise}
 use Rattle.convert.specs.Promise as bench
-use Rattle.convert.specs.declared.Printed.TheVariants as printed
 use Rattle.convert.proofs.Answers.{one_print}
 use Rattle.tightness.proofs.Real.{some_export}
 use Rattle.tightness.proofs.Writing.{same_behind}
@@ -37,7 +37,7 @@ use Rattle.tightness.proofs.Writing.{same_behind}
 regroup : (a b c d e f x : List ℕ) → (a ++ (b ++ (c ++ (d ++ (e ++ f))))) ++ x ≡ (a ++ (b ++ c)) ++ (d ++ (e ++ (f ++ x)))
 regroup a b c d e f x = simp append_assoc
 
--- The bytes of a line tell its channel, whatever stands behind it.
+-- The bytes of a line tell its channel, whatever stands after it.
 module _ (s : DateTime) (r : Record) where
   abbrev front : List ℕ
   front = second_text s ++ (padded_text 4 s.time.part ++ source_text r.extended)
@@ -59,7 +59,7 @@ module _ (s : DateTime) (r : Record) where
 -- A data frame among records, and what is exported before it.
 module _ {start channel : ℕ} (lead back : List Record) (r : Record) {s : DateTime} {t : List ℕ} (rest : List ℕ) (k : r.kind ≤ 1) (z : Stamp start r.offset s)
     (f : Exports start channel lead t) where
-  -- its line stands behind that, on its channel and no other
+  -- its line stands after that, on its channel and no other
   on_another : {d : ℕ} {text : List ℕ} (behind : List ℕ) → d ≢ channel_of channel r.bus → Exports start channel (lead ++ (r ∷ back)) text
       → t ++ (line_text s d r ++ rest) ≡ text ++ behind → ⊥
   on_another {d} behind n x e =
@@ -89,7 +89,7 @@ module _ {start channel : ℕ} (lead back : List Record) (r : Record) {s : DateT
 module _ (u : Trace) (lead back : List Record) (r : Record) {s : DateTime} {t : List ℕ} (rest : List ℕ) (k : r.kind ≤ 1) (z : Stamp u.start r.offset s)
     (f : Exports u.start bench_channel lead t) (e : u.records ≡ lead ++ (r ∷ back)) (b : r.bus ≡ 0) where
   pub bench_prints_another : {d n room : ℕ} {input old : List ℕ} → length input ≤ bench.input_limit → Spells u input → d ≢ 1
-      → ConvertPromise input room old (printed.Page n) (t ++ (line_text s d r ++ rest)) → ⊥
+      → ConvertPromise input room old (Some n) (t ++ (line_text s d r ++ rest)) → ⊥
   bench_prints_another {old = old} h w m (bench.page {text = text} p x y q) =
       let (v, o) = some_export u.start bench_channel u.records in
       let i : v ≡ text = one_print (bench.export h w o) p in

@@ -15,7 +15,7 @@ use Rattle.lines.specs.Lines.{VersionLine, Blanks}
 
 -- fields
 
--- `[`, the byte behind `Z`, is in no word
+-- `[`, the byte after `Z`, is in no word
 pub bracket_in_a_word : All Capital (91 ∷ []) → ⊥
 bracket_in_a_word (more p q) = omega (arith, p.high)
 

@@ -1,11 +1,12 @@
 -- Offsets of 48 bits, one by one: 23 or 7 for one that fits them, as where the old limit is left in one place; a number past them taken; a digit too many;
 -- a bit cut off. Each is refuted over what the function promises, for every offset to which it applies.
+use Rattle.std.specs.Prelude.{Some, None}
 use Prim.Native.Nat.{ℕ, ◌+◌, ◌*◌, ◌-◌, ◌%◌, ◌^◌, ◌≤◌, ◌<◌}
 use mathlib.Core.Path.{◌≡◌, refl, ap, sym}
 use mathlib.Core.Logic.{◌≢◌}
 use mathlib.Core.List.{List, [], ◌∷◌, ◌++◌}
 use native.Mathlib.Omega.{arith}
-use lib.ListN.{length, get_or, take}
+use lib.ListN.{length, take}
 use Rattle.base.specs.Limits.{offset_limit}
 use Rattle.digits.specs.Digits.{DecimalDigit, Digits}
 use Rattle.digits.specs.House.{decimal_text, padded_text}
@@ -36,7 +37,7 @@ use Rattle.ascii_line_reader.specs.AsciiLine.{with_offset}
 use Rattle.explain.specs.Explain.{BeginsRow, WrongField}
 use Rattle.explain.specs.Promise.{ExplainPromise}
 use Rattle.tightness.proofs.Marks.{mark_refused, mark_not_unpacked}
-use Rattle.tightness.proofs.Rows.{row_refused, found}
+use Rattle.tightness.proofs.Rows.{row_refused}
 use Rattle.tightness.proofs.Explaining.{another_field, wrong_called_early, behind}
 
 -- Every offset of 48 bits is well formed.
@@ -79,18 +80,16 @@ module _ {r q : Record} (h : 2 ^ 47 ≤ r.offset) (c : q.offset ≡ r.offset % 2
   pub cut_in_unpack : {mark m : ℕ} {s : List ℕ} → Packs r mark s → UnpackPromise s (record_numbers q m) → ⊥
   cut_in_unpack p u = differ (one_record p (unpacked_fields q u))
 
-pub cut_in_a_row : {v k at e : ℕ} {r : Record} {line out : List ℕ} → Row.Row v k r line → 2 ^ 47 ≤ r.offset → e ≢ 0 → get_or out 0 0 ≡ r.offset % 2 ^ 47
-    → RowFound v k at line out e → ⊥
-cut_in_a_row w h n c p =
-    let (t, x, o) = found p n in
-    omega (arith, ap (λ (l : List ℕ). get_or l 0 0) o, ap (λ (t : Record). t.offset) (row_one x w))
+pub cut_in_a_row : {v k e : ℕ} {r out : Record} {line : List ℕ} (at : ℕ) → Row.Row v k r line → 2 ^ 47 ≤ r.offset → out.offset ≡ r.offset % 2 ^ 47
+    → RowFound v k at line out (Some e) → ⊥
+cut_in_a_row at w h c p = omega (arith, ap (λ (t : Record). t.offset) (row_one p.0 w))
 
 -- row: none found, where one with an offset of 48 bits stands
-pub old_limit_in_a_row : {r : Record} {v k o at : ℕ} {out : List ℕ} → WellFormed r → o < 2 ^ 48 → Carries (with_offset o r) v → 1 ≤ k → k ≤ last_number
-    → RowFound v k at (row_text v k (with_offset o r)) out 0 → ⊥
-old_limit_in_a_row {o = o} w h c l u = row_refused (row_spelled (every_offset o h w) c l u)
+pub old_limit_in_a_row : {r : Record} {v k o : ℕ} (at : ℕ) (out : Record) → WellFormed r → o < 2 ^ 48 → Carries (with_offset o r) v → 1 ≤ k → k ≤ last_number
+    → RowFound v k at (row_text v k (with_offset o r)) out None → ⊥
+old_limit_in_a_row {o = o} at out w h c l u = row_refused at out (row_spelled (every_offset o h w) c l u)
 
--- An offset field with these digits before the point and behind it.
+-- An offset field with these digits before the point and after it.
 abbrev spelled_as : ℕ → ℕ → ℕ → List ℕ
 spelled_as w ms n = decimal_text ms ++ (46 ∷ padded_text w n)
 

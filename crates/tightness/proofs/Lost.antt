@@ -30,7 +30,7 @@ line_lost n a b (reading.done l s r e u) = let z : n ≡ 0 = cc in omega arith
 line_lost n a b (reading.no_room l s r e u) = let z : n ≡ 8 = cc in omega arith
 line_lost n a b (reading.refused {p = p} l r e u) = let z : 0 ≡ p = cc in omega (arith, refused_at r)
 
--- write: 23 and 24 are given with a record, and what is written is counted behind the place
+-- write: 23 and 24 are given with a record, and what is written is counted after the place
 stopped_at : {version start first n p : ℕ} {s : List ℕ} → writing.WriteStopped version start first s n p → 23 ≤ n → n ≤ 24 → 1 ≤ p
 stopped_at (writing.no_records w) h k = absurd (omega arith)
 stopped_at (writing.no_version w v) h k = absurd (omega arith)

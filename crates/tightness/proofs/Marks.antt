@@ -23,7 +23,7 @@ use Rattle.tightness.specs.Programs.{Writer, KeepsWrite, Exporter, KeepsExport}
 use Rattle.tightness.specs.Wrong.{FalselyMarked, WritesFalsely, ExportsFalsely}
 use Rattle.tightness.proofs.Writers.{done}
 
--- pack: the mark at another bit than the sixth from the end, or one of the five behind it set
+-- pack: the mark at another bit than the sixth from the end, or one of the five after it set
 module _ {r : Record} {mark : ℕ} {before after ns : List ℕ} where
   pub mark_at_another_bit : get_or (take 20 after) 19 0 / 32 % 2 ≢ mark → PackPromise r mark before (0 ∷ ns) after → ⊥
   mark_at_another_bit d p = d (mark_place (packed_0 p)).0
@@ -97,7 +97,7 @@ module _ {s before after : List ℕ} {place : ℕ} (f : FirstMalformed s place) 
   pub another_record_exported : {start channel p : ℕ} {ns : List ℕ} → p ≢ place → ExportPromise start channel s before (23 ∷ p ∷ ns) after → ⊥
   another_record_exported d e = d (malformed_one (exporting.answered_23 e) f)
 
--- so at a false mark behind a record that is malformed by itself, wherever both stand; what follows the first of them is any bytes
+-- so at a false mark after a record that is malformed by itself, wherever both stand; what follows the first of them is any bytes
 module _ {front : List Record} (w : Each WellFormed front) {these : List ℕ} (l : length these ≡ 20) (m : (r : Record) (mark : ℕ) → Packs r mark these → ⊥)
     (rest : List ℕ) {before after ns : List ℕ} {later : ℕ} (h : length front + 1 < later) where
   pub false_mark_first_written : {version start first : ℕ} → WritePromise version start first (packed front ++ (these ++ rest)) before (23 ∷ later ∷ ns) after → ⊥

@@ -1,20 +1,20 @@
 -- Wrong answers of the readers and writers of digits, and of the test of a record: each is refuted over the relation or the text that the function
 -- promises.
+use Rattle.std.specs.Prelude.{None}
 use Prim.Native.Nat.{ℕ, suc, ◌%◌, ◌^◌, ◌-◌, ◌<◌}
 use mathlib.Core.Path.{◌≡◌, refl, ap}
 use mathlib.Core.Logic.{◌≢◌, inl}
 use mathlib.Core.List.{List, [], ◌∷◌}
 use native.Mathlib.Omega.{arith}
 use lib.ListN.{length, get_or}
-use Rattle.digits.specs.inner.Answer.{DigitOr255, digit}
-use Rattle.digits.specs.inner.Answer.{none as no_digit}
+use Rattle.base.specs.inner.Answers.{Answers}
+use Rattle.digits.specs.inner.Answer.{digit}
 use Rattle.digits.specs.inner.HexTable.{HexTable}
 use Rattle.digits.specs.inner.Pairs.{PairsOf}
 use Rattle.digits.specs.Digits.{DecimalDigit, Digits, HexDigit, capital, small, figure, letter, none, more, Decimal, Padded}
 use Rattle.digits.specs.declared.Letters.{Letters}
 use Rattle.digits.specs.declared.Letters.TheVariants.{Capital}
-use Rattle.digits.proofs.HexDigits.{hex_of}
-use Rattle.digits.proofs.Strings.{hex}
+use Rattle.digits.proofs.HexTables.{hex_of}
 use Rattle.digits.proofs.Theorems.{one_digit, entry_of}
 use Rattle.digits.specs.House.{glyph_of, fixed, spell, padded_text, hex_text, decimal_text}
 use Rattle.record.specs.declared.Record.{Record}
@@ -30,9 +30,8 @@ between_ranges a b (small (figure p)) = omega (arith, p.value, p.byte)
 between_ranges a b (small (letter p)) = omega (arith, p.low, p.byte)
 
 -- `a` is a digit, and `A` is ten and not eleven
-pub small_refused : DigitOr255 97 255 → ⊥
-small_refused (digit p) = omega (arith, hex.small p)
-small_refused (no_digit f e) = f 10 (small (letter (record { low = omega arith; high = omega arith; byte = refl })))
+pub small_refused : Answers (HexDigit 97) None → ⊥
+small_refused f = f 10 (small (letter (record { low = omega arith; high = omega arith; byte = refl })))
 
 pub letter_one_more : HexDigit 65 11 → ⊥
 letter_one_more (capital (figure p)) = omega (arith, p.value)

@@ -60,7 +60,7 @@ module _ {r : Record} (w : WellFormed r) (o : ℕ) (h : o < 2 ^ 48) (front back 
       old_limit_in_read (reading.no_room s u m e z) = let y : ◌≡◌ {A = ℕ} 7 8 = cc in omega arith
       old_limit_in_read (reading.refused s m e z) = not_refused s (there writable) m
 
--- Two lines, the second so many microseconds behind the start. A stamp cuts nothing off an offset that is whole in 100 microseconds.
+-- Two lines, the second so many microseconds after the start. A stamp cuts nothing off an offset that is whole in 100 microseconds.
 whole_stamp : {start o : ℕ} {s : DateTime} → Stamp start o s → o % 100 ≡ 0 → instant s ≡ start * 1000 + o
 whole_stamp p e = omega (arith, p.time.low, p.time.high)
 

@@ -102,7 +102,7 @@ module _ {f : Reader} (k : KeepsRead f) where
       let e = sym (tries empty).records ∙ both handed_out empty two h ∙ (tries two).records in
       omega (arith, ap length e, packed_length [], packed_length (received12 0 1 ∷ received12 0 2 ∷ []))
 
-  -- The record behind `front`, with the mark that it has there, as it is handed out.
+  -- The record after `front`, with the mark that it has there, as it is handed out.
   its_record : {version start first : ℕ} (front : List Record) (r : Record) (back : List Record) (w : Tried (trace_of version start first (front ++ (r ∷ back))))
       → Packs r (mark_after (last_offset front) r.offset) (handed_out_at (f (text_of w) space) (length front))
   its_record front r back w = rw (tries w).records (marked_there front r back (writable w).formed)

@@ -95,7 +95,7 @@ stopped : {text rest : List ℕ} {start : ℕ} {rs : List Record} → ReadUpTo s
 stopped u n = Promise.no_line u (some_left n) (λ s x. none_next n x)
 
 module _ {text before after rest : List ℕ} {start : ℕ} {rs : List Record} (h : length text ≤ size_limit) (u : ReadUpTo start rs rest text) (n : NoLine rest) where
-  -- Behind lines that spell something it gives 31 at its own line,
+  -- After lines that spell something it gives 31 at its own line,
   pub bad_line : {a : List ℕ} → ReadAsciiPromise text before a after → a ≡ 31 ∷ (length rs + 1) ∷ 0 ∷ 0 ∷ []
   bad_line p = (one_read_ascii p (refused h (stopped u n) refl refl)).0
 

@@ -1,4 +1,5 @@
 -- Wrong answers of single functions: each is refuted over the relation that the function promises.
+use Rattle.std.specs.Prelude.{Option, Some, None}
 use Prim.Native.Nat.{ℕ, ◌+◌, ◌*◌, ◌%◌, ◌<◌}
 use mathlib.Core.Path.{◌≡◌, refl, ap, ◌∙◌}
 use mathlib.Core.Logic.{◌≢◌, ◌⊎◌, inl, inr}
@@ -7,6 +8,7 @@ use native.Mathlib.Omega.{arith}
 use mathlib.Core.Bool.{true, false}
 use lib.ListN.{length, get_or, drop}
 use Rattle.base.specs.Limits.{offset_limit}
+use Rattle.base.specs.inner.Answers.{Answers}
 use Rattle.base.specs.inner.Decides.{Decides}
 use Rattle.digits.specs.Digits.{DecimalDigit, Digits, HexDigit, capital, small, figure, letter, none, more, Hex}
 use Rattle.digits.specs.inner.Answer.{ReadDecimal, ReadPadded, ReadHex}
@@ -22,16 +24,13 @@ use Rattle.record.proofs.OneRecord.{packed_length}
 use Rattle.fields.specs.declared.Scan.{Scan}
 use Rattle.fields.specs.Runs.{All, empty, more as and, Stops, halt}
 use Rattle.fields.specs.Columns.{NumberField, OffsetField, BusField, LengthField, remote_text, type_tx, Capital}
-use Rattle.fields.specs.inner.Window.{Solid, FieldAt, Takes, taken, not, HexField, TypeField, rx, tx, warng, error}
+use Rattle.fields.specs.inner.Window.{Solid, FieldAt, Taken, Takes, HexField, TypeField, rx, tx, warng, error}
 use Rattle.digits.proofs.Strings.{each}
 use Rattle.fields.proofs.FixedFields.{byte_at}
 use Rattle.fields.proofs.Window.{field_one}
 use Rattle.fields.proofs.Columns.{number_one, offset_one}
 use Rattle.row.specs.Versions.{Version, is11, is12, version_text}
-use Rattle.row.proofs.EachVersion.{version_low}
 use Rattle.lines.specs.Lines.{Blanks, VersionLine, Comment}
-use Rattle.lines.specs.inner.Answer
-use Rattle.lines.specs.inner.Answer.{VersionOr0}
 
 -- Equal lists begin with the same.
 differ : {x y : ℕ} {s t : List ℕ} → x ∷ s ≡ y ∷ t → x ≡ y
@@ -136,36 +135,37 @@ two_digit_length e p = let z = ap length p.spelled in omega arith
 pub length_0_as_8 : LengthField 8 (48 ∷ []) → ⊥
 length_0_as_8 p = omega (arith, differ p.spelled)
 
--- a field of one digit, or three, is no byte: the reader's answer is 0
-pub byte_of_two : {w f rest : List ℕ} {at : ℕ} {s : Scan} → FieldAt f rest (drop at w) → length f ≢ 2 → Takes (Hex 2) w at s → s.end ≡ 0
-byte_of_two a n (taken b e h) = absurd (n (ap length (field_one a b).0 ∙ h.width))
-byte_of_two a n (not e f) = e
+-- a field of one digit, or three, is no byte: the reader's answer is none
+pub byte_of_two : {f rest : List ℕ} (w : List ℕ) (at : ℕ) (o : Option Scan) → FieldAt f rest (drop at w) → length f ≢ 2 → Takes (Hex 2) w at o → o ≡ None
+byte_of_two w at (Some s) a n t = absurd (n (ap length (field_one a t.there).0 ∙ t.has.width))
+byte_of_two w at None a n t = refl
 
 -- nor are two bytes of which either is no digit, whatever the other is
-pub no_digit_in_byte : {w : List ℕ} {at i : ℕ} {s : Scan} → i < 2 → ((d : ℕ) → HexDigit (get_or w (at + i) 0) d → ⊥) → Takes (Hex 2) w at s → s.end ≡ 0
-no_digit_in_byte {w} {at} {i} l n (taken {f = f} a e h) =
-    let k : i < length f = omega (arith, h.width) in
-    let d = each h.digits i k in
-    absurd (n d.0 (rw (byte_at w at i a k) d.1))
-no_digit_in_byte l n (not e f) = e
+pub no_digit_in_byte : {i : ℕ} (w : List ℕ) (at : ℕ) (o : Option Scan) → i < 2 → ((d : ℕ) → HexDigit (get_or w (at + i) 0) d → ⊥)
+    → Takes (Hex 2) w at o → o ≡ None
+no_digit_in_byte {i} w at (Some s) l n t =
+    let k : i < length t.field = omega (arith, t.has.width) in
+    let d = each t.has.digits i k in
+    absurd (n d.0 (rw (byte_at w at i t.there k) d.1))
+no_digit_in_byte w at None l n t = refl
 
 -- The field that stands there is read as its own value.
 takes_one : {P : ℕ → List ℕ → Type 0} {w f rest : List ℕ} {at v : ℕ} {s : Scan} → ((a b : ℕ) (g : List ℕ) → P a g → P b g → a ≡ b)
-    → FieldAt f rest (drop at w) → P v f → Takes P w at s → s.value ≡ v
-takes_one u a p (taken b e h) = u _ _ _ (rw (← (field_one a b).0) at h) p
-takes_one u a p (not e f) = absurd (f _ _ a _ p)
+    → FieldAt f rest (drop at w) → P v f → Taken P w at s → s.value ≡ v
+takes_one u a p t = u _ _ _ (rw (← (field_one a t.there).0) at t.has) p
 
--- another row number than the field's
-pub another_number : {w f rest : List ℕ} {at k : ℕ} {s : Scan} → FieldAt f rest (drop at w) → NumberField k f → Takes NumberField w at s
-    → s.value ≢ k → ⊥
-another_number a p t n = n (takes_one (λ x y g q r. number_one q r) a p t)
+-- another row number than the field's, or none
+pub another_number : {f rest : List ℕ} {k : ℕ} (w : List ℕ) (at : ℕ) (o : Option Scan) → FieldAt f rest (drop at w) → NumberField k f
+    → Takes NumberField w at o → ((s : Scan) → o ≡ Some s → s.value ≢ k) → ⊥
+another_number w at (Some s) a p t n = n s refl (takes_one (λ x y g q r. number_one q r) a p t)
+another_number w at None a p t n = t _ _ a _ p
 
--- one digit behind the point as ten microseconds each
+-- one digit after the point as ten microseconds each
 pub tenths_as_ten_microseconds : {w f rest : List ℕ} {at offset : ℕ} {s : Scan} → FieldAt f rest (drop at w) → (o : OffsetField 1 offset f)
-    → 0 < o.fraction → Takes (OffsetField 1) w at s → s.value ≡ o.ms * 1000 + o.fraction * 10 → ⊥
+    → 0 < o.fraction → Takes (OffsetField 1) w at (Some s) → s.value ≡ o.ms * 1000 + o.fraction * 10 → ⊥
 tenths_as_ten_microseconds a o h t e = omega (arith, takes_one (λ x y g q r. offset_one q r) a o t, o.value)
 
--- `rtr`, and `RTR` with a byte behind it
+-- `rtr`, and `RTR` with a byte after it
 pub small_rtr : 114 ∷ 116 ∷ 114 ∷ [] ≡ remote_text → ⊥
 small_rtr e = omega (arith, differ e)
 
@@ -196,10 +196,9 @@ bus_16_as_1 p = go p.spelled.digits
 pub blank_before : {s : List ℕ} → Comment (32 ∷ 59 ∷ s) → ⊥
 blank_before c = omega (arith, differ c.bytes)
 
--- a version line is none the less one with blanks, or none, behind it;
-pub blanks_refused : {v : ℕ} {a b : List ℕ} → Blanks a → Version v → Blanks b → VersionOr0 (59 ∷ (a ++ (version_text v ++ b))) 0 → ⊥
-blanks_refused p t q (Answer.version l) = omega (arith, version_low l.is)
-blanks_refused {v} {a} {b} p t q (Answer.none e f) =
+-- a version line is none the less one with blanks, or none, after it;
+pub blanks_refused : {v : ℕ} {a b : List ℕ} → Blanks a → Version v → Blanks b → Answers (λ u. VersionLine u (59 ∷ (a ++ (version_text v ++ b)))) None → ⊥
+blanks_refused {v} {a} {b} p t q f =
     f v (record { is = t; before = a; after = b; bytes = refl; blanks = p; blank_end = q })
 
 -- but not with a tab

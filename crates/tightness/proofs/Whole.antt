@@ -56,7 +56,7 @@ row_length_9 {k} r w = go (frame (fields_of (text "1)" ∷ text "0.0" ∷ text "
     go : {i : List ℕ} {fs : List (List ℕ)} → Row.FrameId 0 r (i ∷ text "9" ∷ fs) → ⊥
     go (Row.frame_id i (Row.frame_length l d)) = let e : 57 ≡ 48 + r.len = cc l.spelled in omega (arith, l.small)
 
--- two digits behind the point of an offset where version 1.2 has three
+-- two digits after the point of an offset where version 1.2 has three
 pub row_two_fraction_digits : {k : ℕ} (r : Record) → Row.Row 12 k r (text "1) 0.00 1 Rx 0123 0") → ⊥
 unfolding spaced joined
 row_two_fraction_digits {k} r w = go (fields_of (text "1)" ∷ text "0.00" ∷ text "1" ∷ text "Rx" ∷ text "0123" ∷ text "0" ∷ []) tt w)

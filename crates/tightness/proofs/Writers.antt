@@ -13,8 +13,7 @@ use Rattle.trace.specs.House.{trace_text}
 use Rattle.trace.specs.Promise.{ReadPromise}
 use Rattle.trace.proofs.HouseTexts.{trace_text_lem, version_line}
 use Rattle.trace.proofs.There.{one_house}
-use Rattle.trace_writer.specs.declared.Written.TheVariants as answer
-use Rattle.trace_writer.specs.Promise.{write_numbers, WritePromise}
+use Rattle.trace_writer.specs.Promise.{write_done, WritePromise}
 use Rattle.trace_writer.proofs.Answers.{stopped_numbers, writes}
 use Rattle.trace_writer.proofs.Again.{back}
 use Rattle.tightness.specs.Programs.{Lent, FromReader, FromWriter, Reader, seven, KeepsRead, Writer, KeepsWrite, written_text}
@@ -34,13 +33,13 @@ semicolon t rest = rw (trace_text_lem, version_line)
 
 -- Number 0 says that the text is done.
 pub done : {version start first n p m : ℕ} {s before x : List ℕ} → WritePromise version start first s before (n ∷ p ∷ m ∷ []) x → n ≡ 0
-    → WritePromise version start first s before (write_numbers (answer.Done m)) x
+    → WritePromise version start first s before (write_done m) x
 done (WritePromise.refused {n = i} f e q) z = let d : 0 ≡ i = cc in absurd (omega (arith, (stopped_numbers f).0))
 done (WritePromise.no_room w i l e q) z = let d : ◌≡◌ {A = ℕ} 0 25 = cc in absurd (omega arith)
 done (WritePromise.done w i l e q) z = WritePromise.done w i l (cc) q
 
 -- What was written is read back.
-again : {version start first m : ℕ} {s page after text out : List ℕ} {a : FromReader} → WritePromise version start first s page (write_numbers (answer.Done m)) after
+again : {version start first m : ℕ} {s page after text out : List ℕ} {a : FromReader} → WritePromise version start first s page (write_done m) after
     → text ≡ take m after → length s ≤ length out → ReadPromise text out (seven a) a.after
     → (rs : List Record) × (s ≡ packed rs) × HandsOut (trace_of version start first rs) a
 again {s = s} {out = out} {a = a} w e l r =

@@ -79,7 +79,7 @@ pub room_for_the_text_refused : {version start first p n : ℕ} {before after : 
     → length (trace_text (trace_of version start first rs)) ≤ length before → WritePromise version start first (packed rs) before (25 ∷ p ∷ n ∷ []) after → ⊥
 room_for_the_text_refused w l p = let e = (writes w l p).0 in let z : ◌≡◌ {A = ℕ} 25 0 = cc in omega arith
 
--- What stands behind the same bytes.
+-- What stands after the same bytes.
 pub same_behind : (a : List ℕ) {x y : List ℕ} → a ++ x ≡ a ++ y → x ≡ y
 same_behind a {x} {y} e = sym (drop-append_seam a x) ∙ ap (drop (length a)) e ∙ drop-append_seam a y
 
@@ -102,7 +102,7 @@ nine_fraction_digits {version} {start} {first} {before = before} m rest p =
     let c = same_behind (46 ∷ []) (same_behind (decimal_text (start / day_ms)) b) in
     omega (arith, ap (λ (l : List ℕ). get_or l 9 0) c)
 
--- behind the rows of some records, a row with another number than the next, or of another record: the first again, one with the seconds of the
+-- after the rows of some records, a row with another number than the next, or of another record: the first again, one with the seconds of the
 -- row before
 abbrev pub up_to_a_row : ℕ → ℕ → ℕ → List Record → List ℕ → List ℕ
 up_to_a_row version start first front rest =

@@ -22,7 +22,7 @@ pub record HandsOut (t : Trace) (a : FromReader) : Type 0 where
 
 -- The traces that the wrong programs are tried with: without rows, in two versions and with two starts; with two rows, of IDs 1 and 2; with the first of
 -- these copied; with the same two from number 4,117 on; with the first of them alone; with the same without its bus; and with three rows, of which
--- the last steps back, but not behind the first.
+-- the last steps back, but not before the first.
 abbrev pub received_on : ℕ → ℕ → ℕ → Record
 received_on bus offset id = record { offset = offset; bus = bus; kind = 0; extended = 0; id = id; len = 0; «data» = 0 }
 

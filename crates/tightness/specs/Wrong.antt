@@ -132,7 +132,7 @@ MarksEqual = MarksBy (λ first before offset. cond (ltb before offset) 0 1)
 abbrev pub MarksByFirst : Reader → Type 0
 MarksByFirst = MarksBy (λ first before offset. mark_after first offset)
 
--- And a writer, or an exporter, that takes some list with a false mark: behind some records stands one with another mark than it has there.
+-- And a writer, or an exporter, that takes some list with a false mark: after some records stands one with another mark than it has there.
 pub record FalselyMarked (s : List ℕ) : Type 0 where
   pub before : List Record
   pub this : Record

@@ -3,18 +3,21 @@ use Prim.Native.Nat.{ℕ, ◌+◌, ◌*◌, ◌≤◌, ◌<◌}
 use mathlib.Core.Path.{◌≡◌, refl, ap, sym, ◌∙◌}
 use mathlib.Core.Logic.{◌≢◌}
 use mathlib.Core.List.{List, [], ◌∷◌, ◌++◌, append_assoc, append-nil}
+use Rattle.std.specs.Prelude.{Result, Ok, Err}
 use native.Mathlib.Decide.{dec_lt}
 use native.Mathlib.Omega.{arith}
 use lib.ListN.{length, drop, length-append}
+use Rattle.base.specs.declared.refusal.Refused.{Refused}
+use Rattle.base.specs.Refusal.{number_of}
+use Rattle.record.proofs.Refusals.{some_number, same_refused}
 use Rattle.records.specs.Records.{packed}
 use Rattle.records.specs.StepBack.{step_back}
 use Rattle.lines.specs.Lines.{line_limit, FirstLine, DollarLine}
 use Rattle.row.proofs.EachVersion.{version_low}
-use Rattle.trace.specs.declared.Outcome.{Outcome}
-use Rattle.trace.specs.declared.Outcome.TheVariants as outcome
+use Rattle.trace.specs.declared.TraceRead.{TraceRead}
 use Rattle.trace.specs.Trace.{size_limit, Trace, Line, Spells, Begins}
 use Rattle.trace.specs.Promise
-use Rattle.trace.specs.Promise.{read_numbers, EndedLines, none, line, Reached, Barred, RefusedAtLine, ReadPromise, large, done, no_room, refused}
+use Rattle.trace.specs.Promise.{read_done, read_refused, read_numbers, EndedLines, none, line, Reached, Barred, RefusedAtLine, ReadPromise, large, done, no_room, refused}
 use Rattle.lines.proofs.Theorems.{first_one}
 use Rattle.trace.proofs.Apart.{no_line}
 use Rattle.trace.proofs.One.{one_trace}
@@ -251,7 +254,7 @@ one_read (large h e q) (refused k f d r) = absurd (omega arith)
 one_read (done h s l e q) (large k d r) = absurd (omega arith)
 one_read {before = before} (done h s l e q) (done k u m d r) =
     let z = one_trace s u in (
-      e ∙ ap (λ (t : Trace). read_numbers (outcome.Done t.version t.start (length t.records) (step_back t.records) t.first)) z ∙ sym d,
+      e ∙ ap (λ (t : Trace). read_done t.version t.start (length t.records) (step_back t.records) t.first) z ∙ sym d,
       q ∙ ap (λ (t : Trace). packed t.records ++ drop (20 * length t.records) before) z ∙ sym r,
     )
 one_read (done h s l e q) (no_room k u m d r) = absurd (omega (arith, ap (λ (t : Trace). length t.records) (one_trace s u)))
@@ -270,7 +273,7 @@ one_read (refused h f e q) (refused k g d r) =
 -- Demand 3, acceptance: what spells a trace, where there is room, is accepted, and that trace handed out.
 pub accepts : {text before a x : List ℕ} {t : Trace} → length text ≤ size_limit → Spells t text → 20 * length t.records ≤ length before
     → ReadPromise text before a x
-    → (a ≡ read_numbers (outcome.Done t.version t.start (length t.records) (step_back t.records) t.first))
+    → (a ≡ read_done t.version t.start (length t.records) (step_back t.records) t.first)
     × (x ≡ packed t.records ++ drop (20 * length t.records) before)
 accepts h s r p = one_read p (done h s r refl refl)
 
@@ -286,26 +289,34 @@ refused_numbers (Promise.dollar b m d) = (omega arith, omega arith, omega arith)
 refused_numbers (Promise.no_row b m d) = (omega arith, omega arith, omega arith)
 
 -- No refusal has number 0: where that is given, the version is not 0.
-pub refusal : {text before x : List ℕ} {n p : ℕ} → ReadPromise text before (read_numbers (outcome.Refused n p)) x → 1 ≤ n
+pub refusal : {text before x : List ℕ} {n p : ℕ} → ReadPromise text before (read_refused n p) x → 1 ≤ n
 refusal {n = n} (large h e q) = let z : n ≡ 1 = cc in omega arith
 refusal (done {t = t} h s r e q) = let z : 0 ≡ t.version = cc in omega (arith, version_low s.version.is)
 refusal {n = n} (no_room h s r e q) = let z : n ≡ 8 = cc in omega arith
 refusal {n = n} (refused {n = m} h f e q) = let z : n ≡ m = cc in omega (arith, (refused_numbers f).0)
 
 -- So the numbers tell the answer itself,
-pub same_outcome : (a b : Outcome) → read_numbers a ≡ read_numbers b → ((n p : ℕ) → read_numbers a ≡ read_numbers (outcome.Refused n p) → 1 ≤ n)
-    → a ≡ b
-same_outcome (outcome.Done v s n b i) (outcome.Done w t m c j) e f = cc
-same_outcome (outcome.Done v s n b i) (outcome.Refused m q) e f = let z : 0 ≡ m = cc in absurd (omega (arith, f m q e))
-same_outcome (outcome.Refused n p) (outcome.Done w t m c j) e f = let z : n ≡ 0 = cc in absurd (omega (arith, f n p refl))
-same_outcome (outcome.Refused n p) (outcome.Refused m q) e f = cc
+same_trace : (t u : TraceRead) → read_numbers (Ok t) ≡ read_numbers (Ok u) → t ≡ u
+same_trace t u e =
+    let v : t.version ≡ u.version = cc in
+    let s : t.start ≡ u.start = cc in
+    let n : t.rows ≡ u.rows = cc in
+    let b : t.step_back ≡ u.step_back = cc in
+    let f : t.first ≡ u.first = cc in
+    λ i. record { version = v i; start = s i; rows = n i; step_back = b i; first = f i }
+
+pub same_outcome : (a b : Result TraceRead Refused) → read_numbers a ≡ read_numbers b → a ≡ b
+same_outcome (Ok t) (Ok u) e = ap Ok (same_trace t u e)
+same_outcome (Ok t) (Err d) e = let z : 0 ≡ number_of d.reason = cc in absurd (some_number d.reason (sym z))
+same_outcome (Err d) (Ok u) e = let z : number_of d.reason ≡ 0 = cc in absurd (some_number d.reason z)
+same_outcome (Err d) (Err c) e = ap Err (same_refused (cc) (cc))
 
 -- which is the only one.
-pub same_read : {text before x y : List ℕ} (a b : Outcome) → ReadPromise text before (read_numbers a) x → ReadPromise text before (read_numbers b) y
-    → (a ≡ b) × (x ≡ y)
+pub same_read : {text before x y : List ℕ} (a b : Result TraceRead Refused) → ReadPromise text before (read_numbers a) x
+    → ReadPromise text before (read_numbers b) y → (a ≡ b) × (x ≡ y)
 same_read a b p q =
     let z = one_read p q in
-    (same_outcome a b z.0 (λ n o e. refusal (rw e at p)), z.1)
+    (same_outcome a b z.0, z.1)
 
 -- And only such a text is accepted.
 pub accepted : {text before x : List ℕ} {p v s n b f : ℕ} → ReadPromise text before (0 ∷ p ∷ v ∷ s ∷ n ∷ b ∷ f ∷ []) x
@@ -316,7 +327,7 @@ accepted (no_room h s r e q) = let z : ◌≡◌ {A = ℕ} 0 8 = cc in absurd (o
 accepted (refused {n = n} h f e q) = let z : 0 ≡ n = cc in absurd (omega (arith, (refused_numbers f).0))
 
 -- A reader that writes a record before a later line refuses breaks the promise: with a refusal the output is what it was.
-pub untouched : {text before x : List ℕ} {number p : ℕ} → number ≢ 0 → ReadPromise text before (read_numbers (outcome.Refused number p)) x
+pub untouched : {text before x : List ℕ} {number p : ℕ} → number ≢ 0 → ReadPromise text before (read_refused number p) x
     → x ≡ before
 untouched f (large h e q) = q
 untouched {number = number} f (done h s r e q) = let z : number ≡ 0 = cc in absurd (f z)

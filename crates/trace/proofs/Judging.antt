@@ -2,6 +2,7 @@
 use Prim.Native.Nat.{ℕ, ◌+◌, ◌-◌, ◌≤◌, ◌<◌}
 use mathlib.Core.Path.{◌≡◌, refl, ap, sym, ◌∙◌}
 use mathlib.Core.List.{List, [], ◌∷◌, ◌++◌}
+use Rattle.std.specs.Prelude.{Ok}
 use native.Mathlib.Omega.{arith}
 use lib.ListN.{length, take, drop, length-append, length-drop, take-append-drop}
 use lib.Seq.{take-add, take_at, take_all, length-take-le}
@@ -10,7 +11,6 @@ use Rattle.fields.specs.Columns.{last_number}
 use Rattle.row.specs.Versions.{head_lines}
 use Rattle.row.specs.Row.{Expected, Row}
 use Rattle.lines.specs.Lines.{Comment}
-use Rattle.trace.specs.declared.Judged.TheVariants as judged
 use Rattle.trace.specs.Trace.{size_limit, Trace, trace_of, Line, Spells}
 use Rattle.trace.specs.Promise.{EndedLines, RefusedAtLine}
 use Rattle.trace.specs.inner.Passes.{There, NoRow, Bars, Headed, Judges}
@@ -112,7 +112,7 @@ module _ {first : ℕ} {text : List ℕ} {version start at place rows : ℕ} (j 
         counted = omega (arith, length-append j.records (r ∷ []));
       }
 
-  pub finished : length text ≤ at → Judges text version start (judged.Good rows first)
+  pub finished : length text ≤ at → Judges text version start (Ok (record { rows = rows; first = first }))
   finished h = (j.records, rw (take_all at text h) at j.spelled, j.counted)
 
   -- A line that may not stand behind them: the promise's refusal.

@@ -5,8 +5,6 @@ use mathlib.Core.List.{List, [], ◌∷◌, ◌++◌}
 use native.Mathlib.Omega.{arith}
 use lib.ListN.{length, take, drop, length-drop, take-append-drop, drop_of_length-le}
 use Rattle.lines.specs.Lines.{line_limit, FirstLine, VersionLine, StartLine}
-use Rattle.row.proofs.EachVersion.{version_low}
-use Rattle.lines.specs.inner.Answer.{VersionOr0, version, none}
 use Rattle.trace.specs.Trace.{size_limit, no_rows, Line, over}
 use Rattle.trace.specs.Promise.{RefusedAtLine}
 use Rattle.trace.specs.inner.Passes.{There, Versioned, Headed}
@@ -75,12 +73,3 @@ module _ (text : List ℕ) (size : length text ≤ size_limit) where
             numbered = no_rows refl refl;
           });
         }
-
--- The version that was found, or that there is none.
-pub is_version : {line : List ℕ} {v : ℕ} → VersionOr0 line v → (v ≡ 0 → ⊥) → VersionLine v line
-is_version (version w) n = w
-is_version (none z f) n = absurd (n z)
-
-pub no_version_there : {line : List ℕ} {v : ℕ} → VersionOr0 line v → v ≡ 0 → (u : ℕ) → VersionLine u line → ⊥
-no_version_there (version w) z u x = omega (arith, version_low w.is)
-no_version_there (none z f) y u x = f u x

@@ -6,10 +6,9 @@ use native.Mathlib.Omega.{arith}
 use lib.ListN.{length, length-append}
 use Rattle.fields.specs.Runs.{All}
 use Rattle.lines.specs.Lines.{line_limit, Inside, FirstLine}
-use Rattle.trace.specs.declared.Outcome.TheVariants as outcome
 use Rattle.trace.specs.Trace.{size_limit, Trace, Spells, Begins}
 use Rattle.trace.specs.Promise
-use Rattle.trace.specs.Promise.{read_numbers, EndedLines, Reached, Barred, RefusedAtLine, ReadPromise, large, done, no_room, refused}
+use Rattle.trace.specs.Promise.{read_refused, EndedLines, Reached, Barred, RefusedAtLine, ReadPromise, large, done, no_room, refused}
 use Rattle.trace.proofs.Cuts.{ended_line, first_there, first_whole, lines_alone, lines_append}
 use Rattle.trace.proofs.Beginnings.{begins_cut, spells_shorts, shorts_after, shorts_first}
 
@@ -96,7 +95,7 @@ place h (Promise.dollar b l d) m = barred h b
 place h (Promise.no_row b l d) m = barred h b
 
 -- The same of every answer that keeps the promise.
-pub read_place : {text before a after : List ℕ} {number p : ℕ} → ReadPromise text before a after → a ≡ read_numbers (outcome.Refused number p)
+pub read_place : {text before a after : List ℕ} {number p : ℕ} → ReadPromise text before a after → a ≡ read_refused number p
     → 3 ≤ number → number ≤ 7 → Placed text p
 read_place {number = number} (large h e q) d l m = let z : number ≡ 1 = cc (e, d) in absurd (omega arith)
 read_place {number = number} (done h s r e q) d l m = let z : number ≡ 0 = cc (e, d) in absurd (omega arith)

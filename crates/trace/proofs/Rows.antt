@@ -1,8 +1,9 @@
 -- A row read in the window: where it stands in the text, and that none stands there otherwise.
 use Prim.Native.Nat.{ℕ, suc, ◌+◌, ◌-◌, ◌≤◌, ◌<◌}
-use mathlib.Core.Path.{◌≡◌, refl, ap, sym, ◌∙◌}
-use mathlib.Core.Logic.{◌≢◌, ◌⊎◌, inl, inr}
+use mathlib.Core.Path.{◌≡◌, ap, sym, ◌∙◌}
+use mathlib.Core.Logic.{◌⊎◌, inl, inr}
 use mathlib.Core.List.{List, ◌∷◌, ◌++◌, append_assoc}
+use Rattle.std.specs.Prelude.{Some}
 use native.Mathlib.Numerals.{add-one}
 use native.Mathlib.Omega.{arith}
 use native.Mathlib.Decide.{dec_lt}
@@ -11,15 +12,15 @@ use lib.Seq.{drop_at, drop-cons, drop-drop, drop-append-add, drop-append-le, tak
 use Rattle.fields.specs.inner.Window.{LineBeforeCr, Lined}
 use Rattle.fields.proofs.Runs.{all_map}
 use Rattle.record.specs.declared.Record.{Record}
-use Rattle.record.specs.Record.{record_of}
 use Rattle.row.specs.Row.{Expected, Row}
 use Rattle.row.proofs.Plain.{row_plain}
-use Rattle.row_reader.specs.inner.Answer.{RowFound, row_found, no_row, NumberOf}
+use Rattle.row_reader.specs.inner.Answer.{RowFound, NumberOf}
 use Rattle.lines.specs.Lines.{line_limit}
+use Rattle.lines.proofs.Scans.{at_head}
 use Rattle.row_reader.proofs.Numbers.{number_of}
 use Rattle.row_reader.proofs.Whole.{framed}
 use Rattle.trace.specs.Trace.{Line}
-use Rattle.trace.specs.inner.Passes.{There, most_held, Reaches, NoRow, RowAt, here, nowhere}
+use Rattle.trace.specs.inner.Passes.{most_held, Reaches, NoRow, RowHere}
 
 -- What stands behind CR is the rest of the text.
 behind : (text line more : List ℕ) (at feed : ℕ) → drop at text ≡ line ++ (13 ∷ more) → feed ≡ at + suc (length line) → more ≡ drop feed text
@@ -109,13 +110,18 @@ next_byte text at {feed} {line} {after} l y =
     let c : 10 ∷ after ≡ get_or text feed 0 ∷ drop (feed + 1) text = b ∙ drop-cons text feed 0 h ∙ rw add-one in
     (h, cc)
 
-module _ {text w fields : List ℕ} {at from version k e : ℕ} (reach : Reaches text at from w) (inside : at ≤ length text)
-    (read : (line : List ℕ) → LineBeforeCr line (drop (at - from) w) → RowFound version k (at - from) line fields e) where
+-- Where a row is read to its end in the window, at the place e of its CR.
+module _ {text w : List ℕ} {at from version k e : ℕ} {out : Record} (reach : Reaches text at from w) (inside : at ≤ length text)
+    (read : (line : List ℕ) → LineBeforeCr line (drop (at - from) w) → RowFound version k (at - from) line out (Some e)) where
   abbrev n : ℕ
   n = reach.windowed.held - (at - from)
 
   abbrev front : List ℕ
   front = take n (drop at text)
+
+  -- Where its LF is to stand.
+  abbrev feed : ℕ
+  feed = from + e + 1
 
   win : View text at (drop (at - from) w) n
   win = view reach inside
@@ -124,63 +130,63 @@ module _ {text w fields : List ℕ} {at from version k e : ℕ} (reach : Reaches
   front_length = let a = win.within in length-take-le n (drop at text) (omega (arith, length-drop at text))
 
   -- What was read ends in the text, or right behind it.
-  pub feed_near : from + e ≤ length text + 1
-  feed_near = let x = framed front win.over in go x.all (read x.line (rw win.bytes x.is))
+  pub feed_near : from + e ≤ length text
+  feed_near = let x = framed front win.over in go x.all (read x.line (rw win.bytes x.is)).1
     where
-      go : {line : List ℕ} → (line ≡ front) ⊎ ((more : List ℕ) × (front ≡ line ++ (13 ∷ more))) → RowFound version k (at - from) line fields e
-          → from + e ≤ length text + 1
-      go c (no_row y g) = let s = reach.starts in omega arith
-      go (inl c) (row_found u o y) = let s = reach.starts in let a = win.within in omega (arith, front_length, ap length c)
-      go {line} (inr (more, c)) (row_found u o y) =
+      go : {line : List ℕ} → (line ≡ front) ⊎ ((more : List ℕ) × (front ≡ line ++ (13 ∷ more))) → e ≡ at - from + length line
+          → from + e ≤ length text
+      go (inl c) y = let s = reach.starts in let a = win.within in omega (arith, front_length, ap length c)
+      go {line} (inr (more, c)) y =
           let s = reach.starts in
           let a = win.within in
           omega (arith, front_length, ap length c ∙ length-append line (13 ∷ more))
 
-  -- A row was read, within the limit, and LF stands behind its CR.
-  pub row_here : e ≢ 0 → from + e ≤ at + (line_limit + 1) → from + e < length text → get_or text (from + e) 0 ≡ 10 → RowAt text at version k fields (from + e + 1)
-  row_here z h m f = let x = framed front win.over in go x.all (read x.line (rw win.bytes x.is))
+  -- It is within the limit, and LF stands behind its CR.
+  pub row_here : feed ≤ at + (line_limit + 1) → feed < length text → get_or text feed 0 ≡ 10 → RowHere text at version k out (feed + 1)
+  row_here h m f = let x = framed front win.over in let q = read x.line (rw win.bytes x.is) in go x.all q.0 q.1
     where
-      stands : (line more : List ℕ) → from + e ≡ at + suc (length line) → front ≡ line ++ (13 ∷ more)
-          → drop at text ≡ line ++ (13 ∷ 10 ∷ drop (from + e + 1) text)
+      stands : (line more : List ℕ) → feed ≡ at + suc (length line) → front ≡ line ++ (13 ∷ more)
+          → drop at text ≡ line ++ (13 ∷ 10 ∷ drop (feed + 1) text)
       stands line more q c =
           let d : drop at text ≡ line ++ (13 ∷ (more ++ drop n (drop at text))) =
           sym (take-append-drop n (drop at text)) ∙ ap (λ (x : List ℕ). x ++ drop n (drop at text)) c ∙ append_assoc line (13 ∷ more) (drop n (drop at text)) in
-          let b = behind text line (more ++ drop n (drop at text)) at (from + e) d q in
-          let g : drop (from + e) text ≡ 10 ∷ drop (from + e + 1) text = drop-cons text (from + e) 0 m ∙ rw (f, add-one) in
+          let b = behind text line (more ++ drop n (drop at text)) at feed d q in
+          let g : drop feed text ≡ 10 ∷ drop (feed + 1) text = at_head text feed m f in
           d ∙ ap (λ (x : List ℕ). line ++ (13 ∷ x)) (b ∙ g)
 
-      go : {line : List ℕ} → (line ≡ front) ⊎ ((more : List ℕ) × (front ≡ line ++ (13 ∷ more))) → RowFound version k (at - from) line fields e
-          → RowAt text at version k fields (from + e + 1)
-      go c (no_row y g) = absurd (z y)
-      go (inl c) (row_found u o y) = absurd (full (dec_lt n (line_limit + 2)))
+      go : {line : List ℕ} → (line ≡ front) ⊎ ((more : List ℕ) × (front ≡ line ++ (13 ∷ more))) → Row version k out line
+          → e ≡ at - from + length line → RowHere text at version k out (feed + 1)
+      go (inl c) u y = absurd (full (dec_lt n (line_limit + 2)))
         where
           full : Dec (n < line_limit + 2) → ⊥
           full (yes l) = let t = win.most l in let s = reach.starts in omega (arith, front_length, ap length c)
           full (no l) = let s = reach.starts in omega (arith, front_length, ap length c)
-      go {line} (inr (more, c)) (row_found u o y) =
+      go {line} (inr (more, c)) u y =
           let s = reach.starts in
-          let q : from + e ≡ at + suc (length line) = omega arith in
-          here
-          (record {
-            is = record { first = record { inside = all_map (λ b p. record { cr = p.0; lf = p.1 }) (row_plain u); ended = stands line more q c }; short = omega arith };
-            later = omega arith;
-            within = omega arith;
-          }) u o
+          let q : feed ≡ at + suc (length line) = omega arith in
+          record {
+            line = line;
+            there = record {
+              is = record { first = record { inside = all_map (λ b p. record { cr = p.0; lf = p.1 }) (row_plain u); ended = stands line more q c }; short = omega arith };
+              later = omega arith;
+              within = omega arith;
+            };
+            row = u;
+          }
 
-  -- None was read to its end.
-  pub no_row_here : (e ≢ 0 → from + e ≤ at + (line_limit + 1) → from + e < length text → get_or text (from + e) 0 ≡ 10 → ⊥) → RowAt text at version k fields 0
-  no_row_here not = nowhere refl none
-    where
-      none : NoRow text at version k
-      none r line after l u = go (read line (in_window win l))
-        where
-          go : RowFound version k (at - from) line fields e → ⊥
-          go (no_row y g) = g r u
-          go (row_found v o y) =
-              let a = reach.starts in
-              let s = l.short in
-              let x = next_byte text at {feed = from + e} l (omega arith) in
-              not (λ q. omega arith) (omega arith) x.0 x.1
+  -- Or it is no row of the text.
+  pub no_row_here : (feed ≤ at + (line_limit + 1) → feed < length text → get_or text feed 0 ≡ 10 → ⊥) → NoRow text at version k
+  no_row_here not r line after l u =
+      let q = (read line (in_window win l)).1 in
+      let a = reach.starts in
+      let s = l.short in
+      let x = next_byte text at {feed = feed} l (omega arith) in
+      not (omega arith) x.0 x.1
+
+-- Where none is, none stands in the text.
+pub never_here : {text w : List ℕ} {at from version k : ℕ} → Reaches text at from w → at ≤ length text
+    → ((line : List ℕ) → LineBeforeCr line (drop (at - from) w) → (r : Record) → Row version k r line → ⊥) → NoRow text at version k
+never_here reach inside read r line after l u = read line (in_window (view reach inside) l) r u
 
 -- The number k of the row at `at`, where row e is expected: k is one that is expected, and if no row k stands there, none of those does.
 module _ {text w : List ℕ} {at from e k : ℕ} (reach : Reaches text at from w) (inside : at ≤ length text)
@@ -200,17 +206,3 @@ pub record Rowed (text : List ℕ) (at version k : ℕ) : Type 0 where
   pub after : List ℕ
   pub is : Line line after (drop at text)
   pub row : Row version k r line
-
--- What was found: the row, and that its fields are those of its record.
-pub record Found (text : List ℕ) (at version k : ℕ) (fields : List ℕ) (next : ℕ) : Type 0 where
-  pub line : List ℕ
-  pub there : There text at next line
-  pub row : Row version k (record_of fields) line
-
-pub was_found : {text fields : List ℕ} {at version k next : ℕ} → RowAt text at version k fields next → next ≢ 0 → Found text at version k fields next
-was_found (here t u o) z = record { line = _; there = t; row = rw o u }
-was_found (nowhere e f) z = absurd (z e)
-
-pub not_found : {text fields : List ℕ} {at version k next : ℕ} → RowAt text at version k fields next → next ≡ 0 → NoRow text at version k
-not_found (here t u o) z = let a = t.later in absurd (omega arith)
-not_found (nowhere e f) z = f

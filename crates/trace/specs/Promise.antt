@@ -1,18 +1,25 @@
 -- What `read` promises for every text and every output. In words: docs/FORMAT.md, section 11.
-use Rattle.std.specs.Prelude.{ℕ, ◌+◌, ◌*◌, ◌≤◌, ◌<◌, ◌≡◌, ◌≢◌, List, [], ◌∷◌, ◌++◌, length, drop}
+use Rattle.std.specs.Prelude.{Result, Ok, Err, ℕ, ◌+◌, ◌*◌, ◌≤◌, ◌<◌, ◌≡◌, ◌≢◌, List, [], ◌∷◌, ◌++◌, length, drop}
 use Rattle.base.specs.Text.{cr, lf}
 use Rattle.records.specs.Records.{packed}
 use Rattle.records.specs.StepBack.{step_back}
 use Rattle.row.specs.Versions.{head_lines}
-use Rattle.trace.specs.declared.Outcome.{Outcome}
-use Rattle.trace.specs.declared.Outcome.TheVariants as outcome
+use Rattle.base.specs.declared.refusal.Refused.{Refused}
+use Rattle.base.specs.Refusal.{number_of}
+use Rattle.trace.specs.declared.TraceRead.{TraceRead}
 use Rattle.lines.specs.Lines.{line_limit, FirstLine, DollarLine}
 use Rattle.trace.specs.Trace.{size_limit, Trace, Line, Spells, Begins}
 
 -- Number, place, version, start, rows, first step back and first number for each answer.
-abbrev pub read_numbers : Outcome → List ℕ
-read_numbers (outcome.Done v s n b f) = 0 ∷ 0 ∷ v ∷ s ∷ n ∷ b ∷ f ∷ []
-read_numbers (outcome.Refused n p) = n ∷ p ∷ 0 ∷ 0 ∷ 0 ∷ 0 ∷ 0 ∷ []
+abbrev pub read_done : ℕ → ℕ → ℕ → ℕ → ℕ → List ℕ
+read_done version start rows back first = 0 ∷ 0 ∷ version ∷ start ∷ rows ∷ back ∷ first ∷ []
+
+abbrev pub read_refused : ℕ → ℕ → List ℕ
+read_refused number place = number ∷ place ∷ 0 ∷ 0 ∷ 0 ∷ 0 ∷ 0 ∷ []
+
+abbrev pub read_numbers : Result TraceRead Refused → List ℕ
+read_numbers (Ok t) = read_done t.version t.start t.rows t.step_back t.first
+read_numbers (Err e) = read_refused (number_of e.reason) e.place
 
 -- The text is n ended lines.
 pub data EndedLines : ℕ → List ℕ → Type 0 where
@@ -56,14 +63,14 @@ pub data RefusedAtLine (text : List ℕ) : ℕ → ℕ → Type 0 where
 -- `read` of a text, into an output that held `before` and then holds `after`, gives the numbers a.
 pub data ReadPromise (text before a after : List ℕ) : Type 0 where
   -- the text is too long
-  large : size_limit < length text → a ≡ read_numbers (outcome.Refused 1 0) → after ≡ before → ReadPromise text before a after
+  large : size_limit < length text → a ≡ read_refused 1 0 → after ≡ before → ReadPromise text before a after
   -- a trace is spelled as it, and there is room: that trace is handed out
   done : {t : Trace} → length text ≤ size_limit → Spells t text → 20 * length t.records ≤ length before
-      → a ≡ read_numbers (outcome.Done t.version t.start (length t.records) (step_back t.records) t.first)
+      → a ≡ read_done t.version t.start (length t.records) (step_back t.records) t.first
       → after ≡ packed t.records ++ drop (20 * length t.records) before → ReadPromise text before a after
   -- a trace is spelled as it, and there is no room
   no_room : {t : Trace} → length text ≤ size_limit → Spells t text → length before < 20 * length t.records
-      → a ≡ read_numbers (outcome.Refused 8 0) → after ≡ before → ReadPromise text before a after
+      → a ≡ read_refused 8 0 → after ≡ before → ReadPromise text before a after
   -- none is: the refusal of the first line that stops it
-  refused : {n p : ℕ} → length text ≤ size_limit → RefusedAtLine text n p → a ≡ read_numbers (outcome.Refused n p) → after ≡ before
+  refused : {n p : ℕ} → length text ≤ size_limit → RefusedAtLine text n p → a ≡ read_refused n p → after ≡ before
       → ReadPromise text before a after

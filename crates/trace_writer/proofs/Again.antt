@@ -11,14 +11,13 @@ use Rattle.records.specs.StepBack.{step_back, FirstMark}
 use Rattle.records.proofs.Marks.{first_mark}
 use Rattle.records.proofs.Packing.{packed_length}
 use Rattle.records.proofs.Records.{packs_all_one}
-use Rattle.trace.specs.declared.Outcome.TheVariants as outcome
 use Rattle.trace.specs.Trace.{size_limit, Trace, Spells, trace_of}
-use Rattle.trace.specs.Promise.{read_numbers, ReadPromise}
+use Rattle.trace.specs.Promise.{ReadPromise}
+use Rattle.trace.specs.Promise as promise
 use Rattle.trace.specs.House.{trace_text, Writable}
 use Rattle.trace.proofs.Answers.{accepts, refused_numbers}
 use Rattle.trace.proofs.There.{there, there_size, read_writable}
-use Rattle.trace_writer.specs.declared.Written.TheVariants as written
-use Rattle.trace_writer.specs.Promise.{write_numbers, WritePromise}
+use Rattle.trace_writer.specs.Promise.{write_done, write_refused, WritePromise}
 use Rattle.trace_writer.proofs.Answers as answers
 use Rattle.trace_writer.proofs.Answers.{one_write, writes}
 
@@ -27,16 +26,16 @@ house_read : {version start first m : ℕ} {rs : List Record} {after out b x : L
     → m ≡ length (trace_text (trace_of version start first rs))
     → after ≡ trace_text (trace_of version start first rs) ++ drop (length (trace_text (trace_of version start first rs))) page
     → 20 * length rs ≤ length out → ReadPromise (take m after) out b x
-    → (b ≡ read_numbers (outcome.Done version start (length rs) (step_back rs) first)) × (x ≡ packed rs ++ drop (20 * length rs) out)
+    → (b ≡ promise.read_done version start (length rs) (step_back rs) first) × (x ≡ packed rs ++ drop (20 * length rs) out)
 house_read {version} {start} {first} {m} {rs} {after} page w e q l p =
     let s = trace_text (trace_of version start first rs) in
     let d : take m after ≡ s = ap (take m) q ∙ take_at s (drop (length s) page) m (sym e) in
     accepts (there_size w) (there w) l (rw d at p)
 
 -- And back: what was written is read, with room, as the same version, start and records, and the very bytes.
-pub back : {version start first m : ℕ} {s page after out b x : List ℕ} → WritePromise version start first s page (write_numbers (written.Done m)) after
+pub back : {version start first m : ℕ} {s page after out b x : List ℕ} → WritePromise version start first s page (write_done m) after
     → length s ≤ length out → ReadPromise (take m after) out b x
-    → (rs : List Record) × (s ≡ packed rs) × (b ≡ read_numbers (outcome.Done version start (length rs) (step_back rs) first))
+    → (rs : List Record) × (s ≡ packed rs) × (b ≡ promise.read_done version start (length rs) (step_back rs) first)
     × (x ≡ s ++ drop (length s) out)
 back {page = page} p l r =
     let w = answers.written p in
@@ -55,7 +54,7 @@ pub record Read (version start first rows steps : ℕ) (text out x : List ℕ) :
   pub filled : x ≡ packed records ++ drop (20 * length records) out
   pub front : take (20 * rows) x ≡ packed records
 
-pub read_done : {version start first rows steps : ℕ} {text out x : List ℕ} → ReadPromise text out (read_numbers (outcome.Done version start rows steps first)) x
+pub read_done : {version start first rows steps : ℕ} {text out x : List ℕ} → ReadPromise text out (promise.read_done version start rows steps first) x
     → Read version start first rows steps text out x
 read_done (ReadPromise.large h e q) = let z : ◌≡◌ {A = ℕ} 0 1 = cc in absurd (omega arith)
 read_done {version} {start} {first} {rows} {out = out} (ReadPromise.done {t = t} h s r e q) =
@@ -84,14 +83,14 @@ pub read_held : {version start first rows steps : ℕ} {text out x : List ℕ} (
 read_held r = record { formed = (read_writable r.spelled).formed; bytes = r.front }
 
 -- and the first step back is the position of the first mark among them, or 0 if there is none.
-pub first_marked : {version start first rows steps : ℕ} {text out x : List ℕ} → ReadPromise text out (read_numbers (outcome.Done version start rows steps first)) x
+pub first_marked : {version start first rows steps : ℕ} {text out x : List ℕ} → ReadPromise text out (promise.read_done version start rows steps first) x
     → FirstMark (take (20 * rows) x) steps
 first_marked p =
     let r = read_done p in
     rw (r.stepped, r.front) (first_mark (read_held r).formed)
 
 -- The records are in their space.
-pub read_within : {version start first rows steps : ℕ} {text out x : List ℕ} → ReadPromise text out (read_numbers (outcome.Done version start rows steps first)) x
+pub read_within : {version start first rows steps : ℕ} {text out x : List ℕ} → ReadPromise text out (promise.read_done version start rows steps first) x
     → 20 * rows ≤ length x
 read_within {out = out} p =
     let r = read_done p in
@@ -100,11 +99,11 @@ read_within {out = out} p =
 
 -- Any trace that was read can be written, given room: only the room can stop it.
 pub read_writes : {version start first rows steps : ℕ} {text out x page c y : List ℕ}
-    → ReadPromise text out (read_numbers (outcome.Done version start rows steps first)) x → WritePromise version start first (take (20 * rows) x) page c y
+    → ReadPromise text out (promise.read_done version start rows steps first) x → WritePromise version start first (take (20 * rows) x) page c y
     → (t : Trace) × Spells t text
     × (length (trace_text t) ≤ length page
-    → (c ≡ write_numbers (written.Done (length (trace_text t)))) × (y ≡ trace_text t ++ drop (length (trace_text t)) page))
-    × (length page < length (trace_text t) → (c ≡ write_numbers (written.Refused 25 0)) × (y ≡ page))
+    → (c ≡ write_done (length (trace_text t))) × (y ≡ trace_text t ++ drop (length (trace_text t)) page))
+    × (length page < length (trace_text t) → (c ≡ write_refused 25 0) × (y ≡ page))
 read_writes {version} {start} {first} p q =
     let r = read_done p in
     let w = read_writable r.spelled in
@@ -113,10 +112,10 @@ read_writes {version} {start} {first} p q =
 
 -- Again: reading what was written of what was read gives the same answer and the same record bytes.
 pub again : {version start first rows steps m : ℕ} {text out x page y other d z : List ℕ}
-    → ReadPromise text out (read_numbers (outcome.Done version start rows steps first)) x
-    → WritePromise version start first (take (20 * rows) x) page (write_numbers (written.Done m)) y → 20 * rows ≤ length other
+    → ReadPromise text out (promise.read_done version start rows steps first) x
+    → WritePromise version start first (take (20 * rows) x) page (write_done m) y → 20 * rows ≤ length other
     → ReadPromise (take m y) other d z
-    → (d ≡ read_numbers (outcome.Done version start rows steps first)) × (z ≡ take (20 * rows) x ++ drop (20 * rows) other)
+    → (d ≡ promise.read_done version start rows steps first) × (z ≡ take (20 * rows) x ++ drop (20 * rows) other)
 again {rows = rows} {steps = steps} {page = page} p q l g =
     let r = read_done p in
     let w = answers.written q in
@@ -129,12 +128,12 @@ again {rows = rows} {steps = steps} {page = page} p q l g =
 
 -- Any trace that was read can be written, given room, and read again the same.
 pub read_again : {version start first rows steps : ℕ} {text out x page c y : List ℕ}
-    → ReadPromise text out (read_numbers (outcome.Done version start rows steps first)) x → WritePromise version start first (take (20 * rows) x) page c y
+    → ReadPromise text out (promise.read_done version start rows steps first) x → WritePromise version start first (take (20 * rows) x) page c y
     → (t : Trace) × Spells t text
     × (length (trace_text t) ≤ length page
-    → (c ≡ write_numbers (written.Done (length (trace_text t))))
+    → (c ≡ write_done (length (trace_text t)))
     × ((other d z : List ℕ) → 20 * rows ≤ length other → ReadPromise (take (length (trace_text t)) y) other d z
-    → (d ≡ read_numbers (outcome.Done version start rows steps first)) × (z ≡ take (20 * rows) x ++ drop (20 * rows) other)))
+    → (d ≡ promise.read_done version start rows steps first) × (z ≡ take (20 * rows) x ++ drop (20 * rows) other)))
 read_again p q =
     let w = read_writes p q in
     (w.0, w.1, λ l. ((w.2 l).0, λ other d z k g. again p (rw (w.2 l).0 at q) k g))

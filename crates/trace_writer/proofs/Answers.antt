@@ -1,4 +1,5 @@
 -- One answer: the promise of `write` leaves one answer and one output only, and says which traces are written.
+use Rattle.std.specs.Prelude.{Result, Ok, Err}
 use Prim.Native.Nat.{ℕ, ◌≤◌, ◌<◌}
 use mathlib.Core.Path.{◌≡◌, refl, ap, sym, ◌∙◌}
 use mathlib.Core.Logic.{◌≢◌}
@@ -7,7 +8,10 @@ use native.Mathlib.Omega.{arith}
 use lib.ListN.{length, take, drop, length-append}
 use lib.Seq.{take_at}
 use Rattle.clock.specs.Start.{start_limit}
+use Rattle.base.specs.declared.refusal.Refused.{Refused}
+use Rattle.base.specs.Refusal.{number_of}
 use Rattle.record.specs.declared.Record.{Record}
+use Rattle.record.proofs.Refusals.{some_number, same_refused}
 use Rattle.records.specs.Records.{packed, Whole, PacksAll, FirstMalformed}
 use Rattle.records.proofs.Lists.{each_at, first_one}
 use Rattle.records.proofs.Packing.{packed_length, packed_count}
@@ -17,9 +21,7 @@ use Rattle.trace.specs.House.{trace_text, Writable}
 use Rattle.trace.specs.Trace.{Trace, trace_of}
 use Rattle.trace.proofs.HouseTexts.{trace_text_lem}
 use Rattle.trace.proofs.Numbers.{rows_numbered}
-use Rattle.trace_writer.specs.declared.Written.{Written}
-use Rattle.trace_writer.specs.declared.Written.TheVariants as answer
-use Rattle.trace_writer.specs.Promise.{write_numbers, FirstMisfit, NumberFits, WriteStopped, WritePromise}
+use Rattle.trace_writer.specs.Promise.{write_done, write_refused, write_numbers, FirstMisfit, NumberFits, WriteStopped, WritePromise}
 
 -- The first misfit stands at one place.
 misfit_one : {version p q : ℕ} {rs : List Record} → FirstMisfit version rs p → FirstMisfit version rs q → p ≡ q
@@ -120,7 +122,7 @@ one_write {version} {start} {first} (WritePromise.done w i l e q) (WritePromise.
     absurd (omega (arith, ap (λ (rs : List Record). length (trace_text (trace_of version start first rs))) (same_records w i x j)))
 one_write {version} {start} {first} {before = before} (WritePromise.done w i l e q) (WritePromise.done x j k d r) =
     let z = ap (λ (rs : List Record). trace_text (trace_of version start first rs)) (same_records w i x j) in (
-      e ∙ ap (λ (t : List ℕ). write_numbers (answer.Done (length t))) z ∙ sym d,
+      e ∙ ap (λ (t : List ℕ). write_done (length t)) z ∙ sym d,
       q ∙ ap (λ (t : List ℕ). t ++ drop (length t) before) z ∙ sym r,
     )
 
@@ -128,7 +130,7 @@ one_write {version} {start} {first} {before = before} (WritePromise.done w i l e
 text_some : (t : Trace) → 0 < length (trace_text t)
 text_some t = rw (trace_text_lem, length-append) (omega arith)
 
-pub refusal : {version start first n p : ℕ} {s before x : List ℕ} → WritePromise version start first s before (write_numbers (answer.Refused n p)) x → 1 ≤ n
+pub refusal : {version start first n p : ℕ} {s before x : List ℕ} → WritePromise version start first s before (write_refused n p) x → 1 ≤ n
 refusal {n = n} (WritePromise.refused {n = m} f e q) = let z : n ≡ m = cc in omega (arith, (stopped_numbers f).0)
 refusal {n = n} (WritePromise.no_room w i l e q) = let z : n ≡ 25 = cc in omega arith
 refusal {version} {start} {first} (WritePromise.done {rs = rs} w i l e q) =
@@ -137,22 +139,25 @@ refusal {version} {start} {first} (WritePromise.done {rs = rs} w i l e q) =
     absurd (omega (arith, text_some t))
 
 -- So the answer itself is the only one.
-pub same_written : {version start first : ℕ} {s before x y : List ℕ} (a b : Written) → WritePromise version start first s before (write_numbers a) x
-    → WritePromise version start first s before (write_numbers b) y → (a ≡ b) × (x ≡ y)
-same_written (answer.Done n) (answer.Done m) p q = let z = one_write p q in (cc z.0, z.1)
-same_written (answer.Done n) (answer.Refused m o) p q = let z : 0 ≡ m = cc (one_write p q).0 in absurd (omega (arith, refusal q))
-same_written (answer.Refused n o) (answer.Done m) p q = let z : n ≡ 0 = cc (one_write p q).0 in absurd (omega (arith, refusal p))
-same_written (answer.Refused n o) (answer.Refused m r) p q = let z = one_write p q in (cc z.0, z.1)
+pub same_written : {version start first : ℕ} {s before x y : List ℕ} (a b : Result ℕ Refused)
+    → WritePromise version start first s before (write_numbers a) x → WritePromise version start first s before (write_numbers b) y
+    → (a ≡ b) × (x ≡ y)
+same_written (Ok n) (Ok m) p q = let z = one_write p q in (cc z.0, z.1)
+same_written (Ok n) (Err d) p q = let z : 0 ≡ number_of d.reason = cc (one_write p q).0 in absurd (some_number d.reason (sym z))
+same_written (Err d) (Ok m) p q = let z : number_of d.reason ≡ 0 = cc (one_write p q).0 in absurd (some_number d.reason z)
+same_written (Err d) (Err c) p q =
+    let z = one_write p q in
+    (ap Err (same_refused (cc z.0) (cc z.0)), z.1)
 
 -- What can be written is written, where there is room.
 pub writes : {version start first : ℕ} {rs : List Record} {before a x : List ℕ} → Writable (trace_of version start first rs)
     → length (trace_text (trace_of version start first rs)) ≤ length before → WritePromise version start first (packed rs) before a x
-    → (a ≡ write_numbers (answer.Done (length (trace_text (trace_of version start first rs)))))
+    → (a ≡ write_done (length (trace_text (trace_of version start first rs))))
     × (x ≡ trace_text (trace_of version start first rs) ++ drop (length (trace_text (trace_of version start first rs))) before)
 writes w l p = one_write p (WritePromise.done w refl l refl refl)
 
 -- And only that is: the records are those of the bytes.
-pub written : {version start first m : ℕ} {s before x : List ℕ} → WritePromise version start first s before (write_numbers (answer.Done m)) x
+pub written : {version start first m : ℕ} {s before x : List ℕ} → WritePromise version start first s before (write_done m) x
     → (rs : List Record) × Writable (trace_of version start first rs) × (s ≡ packed rs) × (m ≡ length (trace_text (trace_of version start first rs)))
     × (x ≡ trace_text (trace_of version start first rs) ++ drop (length (trace_text (trace_of version start first rs))) before)
 written (WritePromise.refused {n = n} f e q) = let z : 0 ≡ n = cc in absurd (omega (arith, (stopped_numbers f).0))
@@ -161,7 +166,7 @@ written (WritePromise.done {rs = rs} w i l e q) = (rs, w, i, cc, q)
 
 -- With a refusal the output is what it was.
 pub untouched : {version start first number p : ℕ} {s before x : List ℕ} → number ≢ 0
-    → WritePromise version start first s before (write_numbers (answer.Refused number p)) x → x ≡ before
+    → WritePromise version start first s before (write_refused number p) x → x ≡ before
 untouched f (WritePromise.refused g e q) = q
 untouched f (WritePromise.no_room w i l e q) = q
 untouched {number = number} f (WritePromise.done w i l e q) = let z : number ≡ 0 = cc in absurd (f z)
@@ -186,16 +191,16 @@ answered_23 (WritePromise.done w i l e u) = let z : ◌≡◌ {A = ℕ} 23 0 = c
 -- It is tested over all records before 24: where some record is not well formed, the first such is the answer.
 pub malformed_first : {version start first p : ℕ} {s before a x : List ℕ} → Whole s → Version version → start ≤ start_limit → NumberFits first s
     → FirstMalformed s p
-    → WritePromise version start first s before a x → a ≡ write_numbers (answer.Refused 23 p)
+    → WritePromise version start first s before a x → a ≡ write_refused 23 p
 malformed_first w v l n f q = (one_write q (WritePromise.refused (WriteStopped.malformed w v l n f) refl refl)).0
 
 -- 26 is tested before them: where the first number does not fit the records, it is the answer, whatever they are.
 pub misnumbered : {version start first : ℕ} {s before a x : List ℕ} → Whole s → Version version → start ≤ start_limit → (NumberFits first s → ⊥)
-    → WritePromise version start first s before a x → a ≡ write_numbers (answer.Refused 26 0)
+    → WritePromise version start first s before a x → a ≡ write_refused 26 0
 misnumbered w v l f q = (one_write q (WritePromise.refused (WriteStopped.no_number w v l f) refl refl)).0
 
 -- A writer that does nothing breaks the promise: the output that it leaves starts with the house spelling only if it did before.
-pub not_nothing : {version start first m : ℕ} {s before : List ℕ} → WritePromise version start first s before (write_numbers (answer.Done m)) before
+pub not_nothing : {version start first m : ℕ} {s before : List ℕ} → WritePromise version start first s before (write_done m) before
     → (rs : List Record) × (s ≡ packed rs) × (take m before ≡ trace_text (trace_of version start first rs))
 not_nothing {version} {start} {first} {m} {before = before} p =
     let w = written p in

@@ -43,7 +43,12 @@ putting f = record {
   same = refl;
 }
 
-module _ {version first : ℕ} {s old out : List ℕ} {from at k p : ℕ} (f : Putting version first s old out from at k p) {r : Record} (h : at < length s) (b : PackedAt s at r) where
+-- The record that was read at `place` is that of the next row.
+module _ {version first : ℕ} {s old out : List ℕ} {from at place k p : ℕ} (f : Putting version first s old out from at k p) {r : Record} (h : at < length s)
+    (there : PackedAt s place r) (e : place ≡ at) where
+  b : PackedAt s at r
+  b = rw e at there
+
   abbrev rest : List Record
   rest = later f.records h b
 
@@ -57,7 +62,7 @@ module _ {version first : ℕ} {s old out : List ℕ} {from at k p : ℕ} (f : P
 
   -- The next row can be put.
   pub next_row : WellFormed r × Carries r version × (1 ≤ k) × (k ≤ last_number)
-  next_row = (b.packs.formed, each_head (rw all at f.carried), f.low (omega (arith, ap length all)), omega (arith, f.few, ap length all))
+  next_row = (there.packs.formed, each_head (rw all at f.carried), f.low (omega (arith, ap length all)), omega (arith, f.few, ap length all))
 
   pub next_room : p + length (row_text version k r) + 2 ≤ length out
   next_room = omega (arith, f.room, f.same, text)

@@ -9,34 +9,19 @@ ghost use Rattle.fields.specs.Columns.{last_number};
 ghost use Rattle.record.specs.Record.{WellFormed};
 ghost use Rattle.records.specs.Records.{Whole};
 ghost use Rattle.row.specs.Versions.{Version};
-ghost use Rattle.row.specs.inner.Sizes.{longest_ended};
 ghost use Rattle.trace.specs.Trace.{FirstNumber};
 ghost use Rattle.trace.specs.House.{version_line_text, start_line_text};
 ghost use Rattle.trace_writer.specs.Promise.{write_numbers, NumberFits, WritePromise};
-ghost use Rattle.trace_writer.specs.inner.Passes.{with_end, head_text, RowBytes, MisfitAfter, MeasuresRows, RowsFit, RowsPut};
+ghost use Rattle.trace_writer.specs.inner.Passes.{with_end, head_text, RowBytes, MeasuresRows, RowsFit, RowsPut};
 
-use base::{put_byte, put_end, put_text};
+use base::{Refusal, Refused, put_byte, put_end, put_text};
 use clock::{DAY_MS, START_LIMIT, day_fraction};
-use digits::{Letters, decimal_length, pairs, put_decimal, put_padded, renew};
+use digits::{Kept, Letters, Pairs, decimal_length, put_decimal, put_padded};
 use fields::LAST_NUMBER;
 use record::{Record, packed_at};
-use records::{Entry, record_at, whole};
+use records::{record_at, whole};
 use row::{carries, is_version};
 use row_writer::{put_row, row_length};
-
-// The answer of `write`.
-#[derive(Clone, Copy)]
-pub enum Written {
-    Done { bytes: usize },
-    Refused { number: u64, place: u64 },
-}
-
-// How many bytes the rows are; or a refusal.
-#[derive(Clone, Copy)]
-pub enum Size {
-    Bytes(usize),
-    Bad { number: u64, place: u64 },
-}
 
 // Line 1.
 fn put_version_line(out: &mut [u8], at: usize, version: u64) -> usize
@@ -73,28 +58,15 @@ fn head_length(version: u64, start: u64) -> usize
     decimal_length(start / DAY_MS) + HEAD
 }
 
-// How many bytes a row with its end is, or 0 if the version can't carry it.
-fn row_bytes(version: u64, k: u64, r: Record) -> usize
+// How many bytes a row with its end is, if the version can carry it.
+fn row_bytes(version: u64, k: u64, r: Record) -> Option<usize>
     requires { WellFormed r × (1 ≤ k) × (k ≤ last_number) }
-    ensures { RowBytes version k r result × (result ≤ longest_ended) }
+    ensures { RowBytes version k r result }
 {
     if !carries(r, version) {
-        return 0;
+        return None;
     }
-    row_length(version, k, r) + 2
-}
-
-// The first misfit, where row k is n bytes, or 0.
-fn misfit_after(misfit: u64, k: u64, n: usize) -> u64
-    ensures { MisfitAfter misfit k n result }
-{
-    if misfit != 0 {
-        return misfit;
-    }
-    if n == 0 {
-        return k;
-    }
-    0
+    Some(row_length(version, k, r) + 2)
 }
 
 // Whether a trace of so many rows can have this first number.
@@ -117,37 +89,28 @@ fn is_first(first: u64, rows: u64) -> bool
 }
 
 // The first pass: every record and its mark is judged, and the rows are measured, from the first number on. `last` is the offset of the record before.
-fn measure_rows(version: u64, first: u64, records: &[u8]) -> Size
+fn measure_rows(version: u64, first: u64, records: &[u8]) -> Result<usize, Refused>
     requires { Whole records.now × NumberFits first records.now }
     ensures { MeasuresRows version first records.now result }
 {
-    let mut at: usize = 0;
-    let mut k: u64 = 0;
     let mut size: usize = 0;
-    let mut misfit: u64 = 0;
+    let mut misfit: Option<u64> = None;
     let mut last: u64 = 0;
-    while at < records.len() {
-        k += 1;
-        let e = record_at(records, at, last);
-        let Entry::Is(r) = e else {
-            return Size::Bad {
-                number: 23,
-                place: k,
-            };
+    for i in 0..records.len() / 20 {
+        let k = i as u64;
+        let Some(r) = record_at(records, 20 * i, last) else {
+            return Err(Refusal::Malformed.at(k + 1));
         };
         last = r.offset;
-        let n = row_bytes(version, first + k - 1, r);
-        misfit = misfit_after(misfit, k, n);
-        size += n;
-        at += 20;
+        match row_bytes(version, first + k, r) {
+            Some(bytes) => size += bytes,
+            None => misfit = misfit.or(Some(k + 1)),
+        }
     }
-    if misfit != 0 {
-        return Size::Bad {
-            number: 24,
-            place: misfit,
-        };
+    match misfit {
+        Some(place) => Err(Refusal::Misfit.at(place)),
+        None => Ok(size),
     }
-    Size::Bytes(size)
 }
 
 // The second pass: the rows are put behind `from`, where there is room, the first with the number `first`. No record is judged any more. The digits
@@ -156,79 +119,62 @@ fn put_rows(version: u64, first: u64, records: &[u8], out: &mut [u8], from: usiz
     requires { RowsFit version first records.now out.old from }
     ensures { RowsPut version first records.now out.old out.new from }
 {
-    let mut at = 0;
-    let mut k = first;
     let mut p = from;
-    let pairs = pairs(Letters::Capital);
-    let mut last: u64 = 0;
-    let mut tens = [0u8; 20];
-    let mut seconds = [0u8; 20];
-    let mut t = put_decimal(&mut tens, 0, k / 10);
-    let mut u = put_decimal(&mut seconds, 0, 0);
-    while at < records.len() {
-        let r = packed_at(records, at);
-        let second = r.offset / 1000 / 1000;
-        u = renew(&mut seconds, u, last, second);
-        last = second;
-        let q = put_row(out, p, version, k, r, &tens, t, &seconds, u, &pairs);
+    let pairs = Pairs::new(Letters::Capital);
+    let mut tens = Kept::new(first / 10);
+    let mut seconds = Kept::new(0);
+    for i in 0..records.len() / 20 {
+        let r = packed_at(records, 20 * i);
+        let k = first + i as u64;
+        tens.renew(k / 10);
+        seconds.renew(r.offset / 1000 / 1000);
+        let q = put_row(out, p, version, k, r, &tens, &seconds, &pairs);
         p = put_end(out, q);
-        k += 1;
-        t = renew(&mut tens, t, (k - 1) / 10, k / 10);
-        at += 20;
     }
 }
 
 // Both passes, where all but the records and the room is judged.
-fn put_trace(version: u64, start: u64, first: u64, records: &[u8], out: &mut [u8]) -> Written
+fn put_trace(
+    version: u64,
+    start: u64,
+    first: u64,
+    records: &[u8],
+    out: &mut [u8],
+) -> Result<usize, Refused>
     requires { Whole records.now × Version version × (start ≤ start_limit) × NumberFits first records.now }
     ensures { WritePromise version start first records.now out.old (write_numbers result) out.new }
 {
-    let m = measure_rows(version, first, records);
-    match m {
-        Size::Bytes(rows) => {
-            let bytes = head_length(version, start) + rows;
-            if out.len() < bytes {
-                return Written::Refused {
-                    number: 25,
-                    place: 0,
-                };
-            }
-            let p = put_version_line(out, 0, version);
-            let q = put_start_line(out, p, start);
-            put_rows(version, first, records, out, q);
-            Written::Done { bytes }
-        }
-        Size::Bad { number, place } => Written::Refused { number, place },
+    let bytes = head_length(version, start) + measure_rows(version, first, records)?;
+    if out.len() < bytes {
+        return Err(Refusal::NoRoom.whole());
     }
+    let p = put_version_line(out, 0, version);
+    let q = put_start_line(out, p, start);
+    put_rows(version, first, records, out, q);
+    Ok(bytes)
 }
 
-// Writes a trace from packed records, its rows numbered from `first` on.
-pub fn write(version: u64, start: u64, first: u64, records: &[u8], out: &mut [u8]) -> Written
+// Writes a trace from packed records, its rows numbered from `first` on, and gives how many bytes it has.
+pub fn write(
+    version: u64,
+    start: u64,
+    first: u64,
+    records: &[u8],
+    out: &mut [u8],
+) -> Result<usize, Refused>
     ensures { WritePromise version start first records.now out.old (write_numbers result) out.new }
 {
     if !whole(records) {
-        return Written::Refused {
-            number: 20,
-            place: 0,
-        };
+        return Err(Refusal::NotRecords.whole());
     }
     if !is_version(version) {
-        return Written::Refused {
-            number: 21,
-            place: 0,
-        };
+        return Err(Refusal::UnknownVersion.whole());
     }
     if START_LIMIT < start {
-        return Written::Refused {
-            number: 22,
-            place: 0,
-        };
+        return Err(Refusal::LateStart.whole());
     }
     if !is_first(first, records.len() as u64 / 20) {
-        return Written::Refused {
-            number: 26,
-            place: 0,
-        };
+        return Err(Refusal::FirstNumber.whole());
     }
     put_trace(version, start, first, records, out)
 }

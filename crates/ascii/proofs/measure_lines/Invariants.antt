@@ -1,11 +1,7 @@
--- `ascii::measure_lines` keeps: the records up to `at` are judged, measured and counted.
-use Prim.Native.Nat.{◌-◌}
-use lib.ListN.{length}
+-- `ascii::measure_lines` keeps: the records up to the place are judged, measured and counted.
+use Prim.Native.Nat.{◌*◌}
 use Rattle.ascii.proofs.Measuring.{Measuring}
 use Rattle.ascii.proofs.measure_lines.Given as goal
 
-abbrev pub invariant-loop-at : goal.invariant-loop-at
-invariant-loop-at l = Measuring l.channel l.records l.at l.k l.bytes l.lines l.last
-
-abbrev pub decreases-loop-at : goal.decreases-loop-at
-decreases-loop-at l = length l.records - l.at
+abbrev pub invariant-loop-i : goal.invariant-loop-i
+invariant-loop-i l = Measuring l.channel l.records (20 * l.i) l.i l.bytes l.lines l.left_out l.last

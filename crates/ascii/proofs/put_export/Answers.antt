@@ -1,20 +1,21 @@
 -- `ascii::put_export` meets its contract.
+use Prim.Native.Nat.{◌≤◌}
 use mathlib.Core.Path.{refl}
 use native.Mathlib.Omega.{arith}
 use Rattle.ascii.specs.inner.Passes.{line, left}
-use Rattle.ascii.proofs.Exporting.{is_left, is_line}
 use Rattle.ascii.proofs.put_export.Goals as goal
 
-pub returns-then-given-eq0 : goal.returns-then-given-eq0
-returns-then-given-eq0 c = λ s b. left (is_left c.args.r c.frame-given.ensures.0 (omega arith)) refl refl
+pub returns-then-r-gt1 : goal.returns-then-r-gt1
+returns-then-r-gt1 c = λ s b. left (omega arith) refl refl
 
 pub put_line-requires : goal.put_line-requires
 put_line-requires c =
     let p = c.requires in
-    let k = is_line c.args.r c.frame-given.ensures.0 (λ z. omega arith) in
+    let k : c.args.r.kind ≤ 1 = omega arith in
     (p.0.extended, k, p.0.len, (p.1.0, rw c.channel_of.ensures (p.1.1 k)), p.2)
 
 pub returns : goal.returns
 returns c =
     λ s b. let n = c.channel_of.ensures in
-    line (is_line c.args.r c.frame-given.ensures.0 (λ z. omega arith)) (rw n at (c.put_line.ensures s b))
+    let k : c.args.r.kind ≤ 1 = omega arith in
+    line k (rw n at (c.put_line.ensures s b))

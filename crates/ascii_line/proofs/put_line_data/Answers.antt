@@ -3,5 +3,5 @@ use native.Mathlib.Omega.{arith}
 use Rattle.ascii_line.proofs.Texts.{length_data}
 use Rattle.ascii_line.proofs.put_line_data.Goals as goal
 
-pub put_pairs-requires : goal.put_pairs-requires
-put_pairs-requires c = omega (arith, length_data c.args.r)
+pub put-requires : goal.put-requires
+put-requires c = omega (arith, length_data c.args.r)

@@ -1,13 +1,15 @@
 -- `ascii_line_reader::line_in` reads a stamp, and a frame behind it.
-use Rattle.ascii_line_reader.specs.inner.Answer.{no_line}
-use Rattle.ascii_line_reader.proofs.Whole.{unstamped, stamp_lined, whole_line}
+use Rattle.ascii_line_reader.proofs.Whole.{unstamped, stamp_lined, unframed, whole_line}
 use Rattle.ascii_line_reader.proofs.line_in.Goals as goal
 
-pub returns-then-s-eq0 : goal.returns-then-s-eq0
-returns-then-s-eq0 c = λ line l. no_line c.no_line.ensures (unstamped (λ fs p. c.stamp_in-s.ensures line fs l p) c.if-s-eq0.true)
+pub returns-in_err-s : goal.returns-in_err-s
+returns-in_err-s c = rw c.from_residual.ensures (λ line l. unstamped c.args.w.now c.args.at (λ fs p. c.in_err-s.ensures line fs l p))
 
-pub frame_type-f-requires : goal.frame_type-f-requires
-frame_type-f-requires c = let l = c.requires.0 in (stamp_lined (λ fs p. c.stamp_in-s.ensures l.line fs l.is p) c.if-s-eq0.false, c.requires.1)
+pub frame_type-requires : goal.frame_type-requires
+frame_type-requires c = let l = c.requires in stamp_lined (λ fs p. c.in_ok-s.ensures l.line fs l.is p)
+
+pub returns-in_err-f : goal.returns-in_err-f
+returns-in_err-f c = rw c.from_residual-in_err-f.ensures (λ line l. unframed (λ fs p. c.in_ok-s.ensures line fs l p) c.in_err-f.ensures)
 
 pub returns : goal.returns
-returns c = λ line l. whole_line (λ fs p. c.stamp_in-s.ensures line fs l p) c.if-s-eq0.false c.frame_type-f.ensures
+returns c = λ line l. whole_line (λ fs p. c.in_ok-s.ensures line fs l p) c.in_ok-f.ensures

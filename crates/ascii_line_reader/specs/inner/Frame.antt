@@ -1,6 +1,6 @@
 -- What stands behind the stamp, part by part from the last to the first, each over the whole record; and what the readers of these parts promise each
 -- other. No public promise cites this file.
-use Rattle.std.specs.Prelude.{ℕ, ◌+◌, ◌^◌, ◌≡◌, List, [], ◌∷◌, ◌++◌, length, drop}
+use Rattle.std.specs.Prelude.{Option, Some, None, ℕ, ◌+◌, ◌^◌, ◌≡◌, List, [], ◌∷◌, ◌++◌, length, drop}
 use Rattle.base.specs.Text.{text}
 use Rattle.record.specs.declared.Record.{Record}
 use Rattle.fields.specs.Parted.{Parted}
@@ -66,11 +66,6 @@ DataOf extended bus kind id len place left sum r fs =
     (r.extended ∷ r.bus ∷ r.kind ∷ r.id ∷ r.len ∷ [] ≡ extended ∷ bus ∷ kind ∷ id ∷ len ∷ [])
     × ((u : ℕ) × (r.«data» ≡ sum + u) × ByteFields Nothing place left u fs)
 
--- What is read of a frame with these values: where it ends, and its record.
-abbrev pub frame_of : ℕ → ℕ → ℕ → ℕ → ℕ → ℕ → ℕ → FrameRead
-frame_of end extended bus kind id len eight =
-    record { end = end; r = record { offset = 0; bus = bus; kind = kind; extended = extended; id = id; len = len; «data» = eight } }
-
 -- What is left of a line, behind its parts up to a place of a window: the line starts at `from`, and no blank stands before that place.
 pub record Left (line w : List ℕ) (from at : ℕ) (fs : List (List ℕ)) : Type 0 where
   pub front : List ℕ
@@ -81,11 +76,17 @@ pub record Left (line w : List ℕ) (from at : ℕ) (fs : List (List ℕ)) : Typ
   pub here : LineBeforeCr rest (drop at w)
   pub parted : Parted fs rest
 
--- The record that these parts of a line are, by C, with the place behind the line; or 0, and they are none.
-pub data Found (C : Record → List (List ℕ) → Type 0) (line : List ℕ) (from : ℕ) (fs : List (List ℕ)) (x : FrameRead) : Type 0 where
-  found : C x.r fs → Tight line → x.end ≡ from + length line → Found C line from fs x
-  none : x.end ≡ 0 → (Tight line → (r : Record) → C r fs → ⊥) → Found C line from fs x
+-- These parts of a line are this record, by C, and the line ends there.
+pub record FrameHere (C : Record → List (List ℕ) → Type 0) (line : List ℕ) (from : ℕ) (fs : List (List ℕ)) (x : FrameRead) : Type 0 where
+  pub is : C x.r fs
+  pub tight : Tight line
+  pub end : x.end ≡ from + length line
+
+-- So they are, or they are no record.
+abbrev pub Found : (Record → List (List ℕ) → Type 0) → List ℕ → ℕ → List (List ℕ) → Option FrameRead → Type 0
+Found C line from fs (Some x) = FrameHere C line from fs x
+Found C line from fs None = Tight line → (r : Record) → C r fs → ⊥
 
 -- Reading on at a place of a window gives x.
-abbrev pub Leads : (Record → List (List ℕ) → Type 0) → List ℕ → ℕ → FrameRead → Type 0
+abbrev pub Leads : (Record → List (List ℕ) → Type 0) → List ℕ → ℕ → Option FrameRead → Type 0
 Leads C w at x = (line : List ℕ) (from : ℕ) (fs : List (List ℕ)) → Left line w from at fs → Found C line from fs x

@@ -1,5 +1,5 @@
 -- The ends of lines, and the window in which every line ends with CR. No public promise cites this file.
-use Rattle.std.specs.Prelude.{ℕ, ◌+◌, ◌≤◌, ◌≡◌, cond, List, [], ◌∷◌, eqb, length, drop}
+use Rattle.std.specs.Prelude.{Option, Some, None, ℕ, ◌+◌, ◌≤◌, ◌≡◌, cond, List, [], ◌∷◌, eqb, length, drop}
 use Rattle.base.specs.Text.{cr, lf}
 use Rattle.lines.specs.Lines.{line_limit}
 
@@ -11,9 +11,17 @@ unfoldable pub cr_for_all : List ℕ → List ℕ
 cr_for_all [] = []
 cr_for_all (b ∷ s) = cr_for b ∷ cr_for_all s
 
--- At e, within the limit from `at` on, stands the end of a line, and the next one at n; or n is 0, and none stands there.
-pub data EndAt (text : List ℕ) (at e n : ℕ) : Type 0 where
-  feed : e ≤ at + line_limit → drop e text ≡ lf ∷ drop n text → n ≡ e + 1 → n ≤ length text → EndAt text at e n
-  return : e ≤ at + line_limit → drop e text ≡ cr ∷ lf ∷ drop n text → n ≡ e + 2 → n ≤ length text → EndAt text at e n
-  none : n ≡ 0 → ((rest : List ℕ) → e ≤ at + line_limit → drop e text ≡ lf ∷ rest → ⊥)
-      → ((rest : List ℕ) → e ≤ at + line_limit → drop e text ≡ cr ∷ lf ∷ rest → ⊥) → EndAt text at e n
+-- At e, within the limit from `at` on, stands the end of a line, and the next one at n.
+pub data EndHere (text : List ℕ) (at e n : ℕ) : Type 0 where
+  feed : e ≤ at + line_limit → drop e text ≡ lf ∷ drop n text → n ≡ e + 1 → n ≤ length text → EndHere text at e n
+  return : e ≤ at + line_limit → drop e text ≡ cr ∷ lf ∷ drop n text → n ≡ e + 2 → n ≤ length text → EndHere text at e n
+
+-- No end of a line stands at e, within the limit from `at` on.
+pub record NoEndHere (text : List ℕ) (at e : ℕ) : Type 0 where
+  pub feed : (rest : List ℕ) → e ≤ at + line_limit → drop e text ≡ lf ∷ rest → ⊥
+  pub return : (rest : List ℕ) → e ≤ at + line_limit → drop e text ≡ cr ∷ lf ∷ rest → ⊥
+
+-- The place after the end of a line at e, if one stands there.
+abbrev pub EndAt : List ℕ → ℕ → ℕ → Option ℕ → Type 0
+EndAt text at e (Some n) = EndHere text at e n
+EndAt text at e None = NoEndHere text at e

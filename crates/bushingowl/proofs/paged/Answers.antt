@@ -1,14 +1,14 @@
 -- `bushingowl::paged` meets its contract: what it requires is never too short.
-use Rattle.convert.proofs.Answers.{paged, untouched, enough}
+use Rattle.std.specs.Prelude.{Option}
+use Rattle.std.specs.Option.{unwrap_or}
+use Prim.Native.Nat.{ℕ}
+use mathlib.Core.Path.{◌≡◌, ap, ◌∙◌}
+use native.Mathlib.Omega.{arith}
+use Rattle.convert.proofs.Answers.{prints}
 use Rattle.bushingowl.proofs.paged.Goals as goal
 
-pub returns-in-Page : goal.returns-in-Page
-returns-in-Page c =
-    let p = paged (rw c.in-Page.is at c.convert-r.ensures) in
-    record { upper_bound = p.0; prints = p.1 }
-
-pub returns-in-Short : goal.returns-in-Short
-returns-in-Short c =
-    let p = rw c.in-Short.is at c.convert-r.ensures in
-    let e = c.requires in
-    absurd (enough e.0 e.1 (untouched p).0)
+pub returns : goal.returns
+returns c =
+    let p = prints c.requires.0 c.requires.1 c.convert.ensures in
+    let n : c.unwrap_or.result ≡ p.0 = c.unwrap_or.ensures ∙ ap (λ (o : Option ℕ). unwrap_or o 0) p.1 in
+    record { within = omega (arith, p.2); prints = rw n p.3 }

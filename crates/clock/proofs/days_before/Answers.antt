@@ -1,5 +1,4 @@
 -- `days_before` meets its contract: the rule is tested over the whole table, and holds at each entry.
-use mathlib.Core.Path.{◌∙◌}
 use borrow.Author.Rules.{rules}
 use Rattle.base.proofs.Tables.{nested}
 use Rattle.clock.specs.Date.{month_days, before}
@@ -7,4 +6,4 @@ use Rattle.clock.proofs.days_before.Goals as goal
 
 pub returns : goal.returns
 unfolding before month_days
-returns c = c.wide.ensures ∙ search (nested before 2 12, rules)
+returns c = search (nested before 2 12, rules)

@@ -1,7 +1,6 @@
 -- `month_of` meets its contract: the guess is the month or the one before it.
 use Prim.Native.Nat.{◌+◌, ◌/◌}
 use mathlib.Core.Path.{◌≡◌, ap}
-use mathlib.Core.Logic.{⊎_elim}
 use native.Mathlib.Omega.{arith}
 use Rattle.clock.specs.Date.{before}
 use Rattle.clock.proofs.Calendar.{guess, next_month, whole_year}

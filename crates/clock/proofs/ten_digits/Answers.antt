@@ -1,25 +1,12 @@
--- `ten_digits` meets its contract: each turn of the loop puts a digit 0 behind the fraction.
-use mathlib.Core.Path.{◌≡◌}
-use native.Mathlib.Nat.{pow-suc}
-use native.Mathlib.Numerals.{add-one}
+-- `ten_digits` meets its contract: it puts a digit 0 after the fraction for each that is missing.
 use native.Mathlib.Omega.{arith}
-use borrow.Author.Rules.{rules}
-use Rattle.clock.proofs.Starts.{below_ten, one_digit_more}
+use Rattle.clock.proofs.Starts.{with_zeros}
 use Rattle.clock.proofs.ten_digits.Goals as goal
 
-pub overflow_mul-f : goal.overflow_mul-f
-overflow_mul-f c = omega (arith, below_ten c.loop-d.invariant.1 c.loop-d-test.true)
-
-pub loop-d-preserved : goal.loop-d-preserved
-loop-d-preserved c =
-    let a = c.args in
-    let l = c.loop-d in (
-      search rules,
-      rw (add-one, pow-suc 10) (omega arith),
-      one_digit_more l.f a.fraction a.digits l.d l.invariant.2,
-    )
+pub overflow_mul-result : goal.overflow_mul-result
+overflow_mul-result c =
+    let z = with_zeros c.args.fraction c.args.digits c.requires.0 c.requires.1 in
+    rw c.pow.ensures (omega arith)
 
 pub returns : goal.returns
-returns c =
-    let e : c.loop-d.d ≡ 10 = omega arith in
-    (rw e at c.loop-d.invariant.2, rw e at c.loop-d.invariant.1)
+returns c = rw c.pow.ensures (with_zeros c.args.fraction c.args.digits c.requires.0 c.requires.1)

@@ -8,6 +8,3 @@ use Rattle.digits.proofs.put_padded.Given as goal
 
 abbrev pub invariant-loop-i : goal.invariant-loop-i
 invariant-loop-i l = (l.i ≤ l.w) × (length l.out ≡ length l.initial.out) × PutFrom figure_of 10 l.w l.n l.at l.initial.out l.out l.i l.m
-
-abbrev pub decreases-loop-i : goal.decreases-loop-i
-decreases-loop-i l = l.i

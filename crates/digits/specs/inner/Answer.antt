@@ -1,13 +1,6 @@
 -- What the readers of digit strings answer.
 use Rattle.std.specs.Prelude.{ℕ, ◌≤◌, ◌≡◌, List, length}
-use Rattle.digits.specs.declared.Number.{Number}
-use Rattle.digits.specs.declared.Number.TheVariants.{Value, Not}
 use Rattle.digits.specs.Digits.{HexDigit, Decimal, Padded, Hex}
-
--- The number that has P, or that none has it.
-abbrev pub Answers : (ℕ → Type 0) → Number → Type 0
-Answers P (Value n) = P n
-Answers P Not = (n : ℕ) → P n → ⊥
 
 -- The digit that the byte x is, or 255 if it is none.
 pub data DigitOr255 (x r : ℕ) : Type 0 where

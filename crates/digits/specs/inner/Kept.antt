@@ -2,7 +2,7 @@
 use Rattle.std.specs.Prelude.{ℕ, ◌≤◌, ◌≡◌, List, take}
 use Rattle.digits.specs.House.{decimal_text}
 
--- An array of twenty bytes starts with so many digits, those of n.
-pub record Kept (n : ℕ) (kept : List ℕ) (digits : ℕ) : Type 0 where
+-- The bytes start with so many digits, those of n.
+pub record KeepsDigits (n digits : ℕ) (kept : List ℕ) : Type 0 where
   pub text : take digits kept ≡ decimal_text n
   pub few : digits ≤ 20

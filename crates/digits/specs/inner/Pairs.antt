@@ -3,7 +3,7 @@ use Rattle.std.specs.Prelude.{ℕ, ◌+◌, ◌*◌, ◌/◌, ◌%◌, ◌<◌, 
 use Rattle.digits.specs.declared.Letters.{Letters}
 use Rattle.digits.specs.House.{glyph_of}
 
--- The two digits of each byte, one pair behind the other.
+-- The two digits of each byte, one pair after the other.
 pub record PairsOf (c : Letters) (t : List ℕ) : Type 0 where
   pub long : length t ≡ 512
   pub high : (b : ℕ) → b < 256 → get_or t (2 * b) 0 ≡ glyph_of c (b / 16)

@@ -1,7 +1,7 @@
 -- `escapes::ended`: two digits are a byte.
-use Rattle.std.proofs.Common.{refl, arith}
-use Rattle.escapes.proofs.Spelled.{byte_is}
+use Rattle.std.proofs.Common.{◌∙◌, arith}
+use Rattle.escapes.proofs.Spelled.{looked_up, byte_is}
 use Rattle.escapes.proofs.ended.Goals as goal
 
-pub returns-in_default : goal.returns-in_default
-returns-in_default c = λ s x k y. byte_is k (λ e. omega arith) (λ e. omega arith) (rw c.wide.ensures.0 c.hex_digit.ensures) refl y
+pub returns-in-Digit : goal.returns-in-Digit
+returns-in-Digit c = λ s x k y. byte_is (rw c.in-Digit.is at k) (λ d p. c.unwrap_or-low.ensures ∙ looked_up 255 c.digit.result c.digit.ensures p) (omega arith) y

@@ -1,4 +1,4 @@
--- `explain::explain_fields` goes from field to field, behind the first.
+-- `explain::explain_fields` goes from field to field, after the first.
 use native.Mathlib.Omega.{arith}
 use Rattle.lines.proofs.Scans.{blanks_ran, part}
 use Rattle.explain.proofs.Fields.{later, lent}
@@ -37,7 +37,7 @@ slice_bounds-step-end c = c.field_end-e.ensures.within
 pub step-t-requires : goal.step-t-requires
 step-t-requires c =
     let h = c.field_end-e.ensures in
-    (lent (blanks_ran c.run_end-a.ensures) c.if-a-line.false h c.requires.0, c.loop-p.invariant.good, c.requires.4)
+    (lent (blanks_ran c.run_end-a.ensures) c.if-a-line.false h c.requires.0, c.loop-p.invariant.good)
 
 pub overflow_add-result : goal.overflow_add-result
 overflow_add-result c =

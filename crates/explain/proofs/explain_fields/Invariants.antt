@@ -1,4 +1,4 @@
--- `explain::explain_fields` goes from field to field, behind the first.
+-- `explain::explain_fields` goes from field to field, after the first.
 use Prim.Native.Nat.{◌-◌}
 use lib.ListN.{length}
 use Rattle.explain.proofs.Answers.{Going}

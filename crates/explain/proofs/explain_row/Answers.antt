@@ -1,4 +1,4 @@
--- `explain::explain_row` takes the row number, and goes on behind it.
+-- `explain::explain_row` takes the row number, and goes on after it.
 use native.Mathlib.Omega.{arith}
 use lib.Seq.{length-slice}
 use Rattle.lines.proofs.Scans.{blanks_ran, part}
@@ -54,7 +54,7 @@ explain_fields-requires c =
     let h = c.field_end-e.ensures in
     let m = rw (part h) at c.first-t.ensures in
     let l = later g c.if-a-line.false h in
-    (c.requires.0, omega arith, h.within, moved_good m c.if-t-eq0.false, c.hex_table-hex.ensures)
+    (c.requires.0, omega arith, h.within, moved_good m c.if-t-eq0.false)
 
 pub returns : goal.returns
 returns c =

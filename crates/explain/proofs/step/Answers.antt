@@ -9,7 +9,7 @@ use Rattle.explain.proofs.Windows.{starts, moves, word, no_word, long_stuck, lon
 use Rattle.explain.proofs.step.Goals as goal
 
 pub take_field-requires : goal.take_field-requires
-take_field-requires c = (starts _ c.requires.0 c.window.ensures, c.requires.1, c.requires.2)
+take_field-requires c = (starts _ c.requires.0 c.window.ensures, c.requires.1)
 
 pub returns-then-f-le-LONGEST : goal.returns-then-f-le-LONGEST
 returns-then-f-le-LONGEST c = moves _ c.requires.0 c.window.ensures c.take_field.ensures
@@ -30,7 +30,7 @@ window-requires-2 c =
 pub take_field-requires-2 : goal.take_field-requires-2
 take_field-requires-2 c =
     let l : word_bytes ≤ length c.args.f.now = omega arith in
-    (starts _ (front_field l c.requires.0) c.window-2.ensures, c.requires.1, c.requires.2)
+    (starts _ (front_field l c.requires.0) c.window-2.ensures, c.requires.1)
 
 pub returns : goal.returns
 returns c =

@@ -1,5 +1,5 @@
 -- What the functions of the explainer promise each other. No public promise cites this file.
-use Rattle.std.specs.Prelude.{ℕ, ◌<◌, ◌≡◌, ◌≢◌, List, ◌∷◌, ◌++◌, length, drop}
+use Rattle.std.specs.Prelude.{Result, Ok, Err, ℕ, ◌<◌, ◌≡◌, ◌≢◌, List, ◌∷◌, ◌++◌, length, drop}
 use Rattle.record.specs.declared.Record.{Record}
 use Rattle.fields.specs.Parted.{Parted}
 use Rattle.fields.specs.Runs.{All}
@@ -9,6 +9,8 @@ use Rattle.row.specs.Row.{Expected, Row}
 use Rattle.row.specs.inner.Stages.{Continues, Good}
 use Rattle.explain.specs.declared.Explained.{Explained}
 use Rattle.explain.specs.declared.Explained.TheVariants as explained
+use Rattle.base.specs.declared.refusal.Refusal.{Refusal}
+use Rattle.base.specs.Refusal.{number_of}
 use Rattle.explain.specs.Explain.{ExpectedFields, WrongField, EndedEarly}
 
 -- The bytes of a field.
@@ -16,7 +18,7 @@ pub record Field (f : List ℕ) : Type 0 where
   pub some : 0 < length f
   pub solid : All Solid f
 
--- The field f, where C says which fields end in which record: t has the state behind it; or no row goes on with it, and t has place 0.
+-- The field f, where C says which fields end in which record: t has the state after it; or no row goes on with it, and t has place 0.
 pub data Moves (C : List (List ℕ) → Record → Type 0) (f : List ℕ) (t : Step) : Type 0 where
   moved : t.at ≢ 0 → Good t.part → ((fs : List (List ℕ)) (r : Record) → C (f ∷ fs) r → Continues t.part fs r)
       → ((fs : List (List ℕ)) (r : Record) → Continues t.part fs r → C (f ∷ fs) r) → Moves C f t
@@ -31,7 +33,7 @@ pub record FieldsBefore (version number : ℕ) (line : List ℕ) (C : List (List
   pub back : (fs : List (List ℕ)) (r : Record) → C fs r → ExpectedFields version number r (front ++ fs)
 
 -- What is found of a line, where number 30 says that it is a row that is expected.
-abbrev pub FoundIn : ℕ → ℕ → List ℕ → Explained → Type 0
-FoundIn version number line (explained.Wrong i) = WrongField version number line i
-FoundIn version number line (explained.Early i) = EndedEarly version number line i
-FoundIn version number line (explained.Refused n) = (n ≡ 30) × ((k : ℕ) × (r : Record) × Expected number k × Row version k r line)
+abbrev pub FoundIn : ℕ → ℕ → List ℕ → Result Explained Refusal → Type 0
+FoundIn version number line (Ok (explained.Wrong i)) = WrongField version number line i
+FoundIn version number line (Ok (explained.Early i)) = EndedEarly version number line i
+FoundIn version number line (Err reason) = (number_of reason ≡ 30) × ((k : ℕ) × (r : Record) × Expected number k × Row version k r line)

@@ -11,8 +11,8 @@ use Rattle.fields.proofs.decimal.Goals as goal
 pub loop-i-init : goal.loop-i-init
 loop-i-init c = none_passed c.requires
 
-pub bounds-bytes-i : goal.bounds-bytes-i
-bounds-bytes-i c = inside _ _ c.loop-i.invariant.lined
+pub bounds-w-i : goal.bounds-w-i
+bounds-w-i c = omega (arith, inside c.args.w.now c.loop-i.i c.loop-i.invariant.lined)
 
 pub overflow_mul-n : goal.overflow_mul-n
 overflow_mul-n c = let r = room decimal (offset_digits - 1) (omega arith) c.loop-i.invariant (omega arith) in omega arith
@@ -22,5 +22,4 @@ overflow_add-n c = let r = room decimal (offset_digits - 1) (omega arith) c.loop
 
 pub loop-i-preserved : goal.loop-i-preserved
 loop-i-preserved c =
-    let l = c.loop-i in
-    one_passed decimal_solid l.invariant (omega arith) (record { value = omega arith; byte = omega arith })
+    one_passed decimal_solid c.loop-i.invariant (omega arith) (record { value = omega arith; byte = omega arith })

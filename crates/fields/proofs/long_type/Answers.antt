@@ -1,10 +1,10 @@
--- `fields::long_type` reads the four bytes behind the first one by one, and what ends the field.
+-- `fields::long_type` reads the four bytes after the first one by one, and what ends the field.
 use Prim.Native.Nat.{ℕ, ◌+◌}
 use mathlib.Core.Path.{◌≡◌, refl, ap}
 use mathlib.Core.List.{List, [], ◌∷◌}
 use native.Mathlib.Omega.{arith}
 use lib.ListN.{length, get_or}
-use Rattle.fields.specs.inner.Window.{Solid, Starts, taken, not}
+use Rattle.fields.specs.inner.Window.{Solid, Starts}
 use Rattle.fields.proofs.FixedFields.{StandsAt, first, then, here, ended, unended}
 use Rattle.fields.proofs.long_type.Goals as goal
 
@@ -25,39 +25,45 @@ five : {w : List ℕ} {at a b c d : ℕ} → Starts w at → Solid a → get_or 
     → StandsAt (get_or w at 0 ∷ a ∷ b ∷ c ∷ d ∷ []) w at
 five s p e q f r g t h = then (four s p e q f r g) t h
 
-pub bounds-bytes-at : goal.bounds-bytes-at
-bounds-bytes-at c = omega (arith, here (first c.requires.0 refl))
+pub bounds-w-at : goal.bounds-w-at
+bounds-w-at c = omega (arith, here (first c.requires.0 refl))
 
-pub bounds-bytes-at-2 : goal.bounds-bytes-at-2
-bounds-bytes-at-2 c = omega (arith, here (two c.requires.0 c.requires.1 c.if-bytes-at.false))
+pub bounds-w-at-else-w-at : goal.bounds-w-at-else-w-at
+bounds-w-at-else-w-at c = omega (arith, here (two c.requires.0 c.requires.1 c.if-w-at.false))
 
-pub bounds-bytes-at-3 : goal.bounds-bytes-at-3
-bounds-bytes-at-3 c = omega (arith, here (three c.requires.0 c.requires.1 c.if-bytes-at.false c.requires.2 c.if-bytes-at-2.false))
+pub bounds-w-at-else-w-at-2 : goal.bounds-w-at-else-w-at-2
+bounds-w-at-else-w-at-2 c =
+    omega (arith, here (three c.requires.0 c.requires.1 c.if-w-at.false c.requires.2 c.if-w-at-2.false))
 
-pub bounds-bytes-at-4 : goal.bounds-bytes-at-4
-bounds-bytes-at-4 c = omega (
+pub bounds-w-at-else-w-at-3 : goal.bounds-w-at-else-w-at-3
+bounds-w-at-else-w-at-3 c = omega (
   arith,
-  here (four c.requires.0 c.requires.1 c.if-bytes-at.false c.requires.2 c.if-bytes-at-2.false
-      c.requires.3 c.if-bytes-at-3.false),
+  here (four c.requires.0 c.requires.1 c.if-w-at.false c.requires.2 c.if-w-at-2.false
+      c.requires.3 c.if-w-at-3.false),
 )
 
-pub bounds-bytes-at-5 : goal.bounds-bytes-at-5
-bounds-bytes-at-5 c = omega (
+pub bounds-w-at-2 : goal.bounds-w-at-2
+bounds-w-at-2 c = omega (
   arith,
-  here (five c.requires.0 c.requires.1 c.if-bytes-at.false c.requires.2 c.if-bytes-at-2.false
-      c.requires.3 c.if-bytes-at-3.false c.requires.4 c.if-bytes-at-4.false),
+  here (five c.requires.0 c.requires.1 c.if-w-at.false c.requires.2 c.if-w-at-2.false
+      c.requires.3 c.if-w-at-3.false c.requires.4 c.if-w-at-4.false),
 )
 
 pub returns-then-not-ends : goal.returns-then-not-ends
 returns-then-not-ends c =
     let e = c.ends in
-    not c.none-then-not-ends.ensures (λ f rest a v p.
-    unended (five c.requires.0 c.requires.1 c.if-bytes-at.false c.requires.2 c.if-bytes-at-2.false
-    c.requires.3 c.if-bytes-at-3.false c.requires.4 c.if-bytes-at-4.false) e.result e.ensures c.if-not-ends.true a (ap length p.0))
+    λ f rest a v p.
+    unended (five c.requires.0 c.requires.1 c.if-w-at.false c.requires.2 c.if-w-at-2.false
+    c.requires.3 c.if-w-at-3.false c.requires.4 c.if-w-at-4.false) e.result e.ensures c.if-not-ends.true a (ap length p.0)
 
 pub returns : goal.returns
 returns c =
     let e = c.ends in
-    taken (ended (five c.requires.0 c.requires.1 c.if-bytes-at.false c.requires.2 c.if-bytes-at-2.false
-    c.requires.3 c.if-bytes-at-3.false c.requires.4 c.if-bytes-at-4.false) (omega arith)
-    e.result e.ensures c.if-not-ends.false) refl (refl, refl)
+    record {
+      field = _;
+      there = ended (five c.requires.0 c.requires.1 c.if-w-at.false c.requires.2 c.if-w-at-2.false
+          c.requires.3 c.if-w-at-3.false c.requires.4 c.if-w-at-4.false) (omega arith)
+          e.result e.ensures c.if-not-ends.false;
+      place = refl;
+      has = (refl, refl);
+    }

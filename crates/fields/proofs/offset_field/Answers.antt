@@ -3,46 +3,41 @@ use Prim.Native.Nat.{ℕ, ◌+◌, ◌*◌, ◌-◌, ◌^◌, ◌≤◌}
 use mathlib.Core.Path.{◌≡◌, ap}
 use mathlib.Core.Logic.{◌⊎◌, ⊎_elim}
 use native.Mathlib.Omega.{arith}
-use Rattle.fields.specs.inner.Window.{not}
-use Rattle.base.proofs.Tests.{shown, refuted}
 use Rattle.fields.proofs.Window.{inside}
 use Rattle.fields.proofs.DigitFields.{goes_on, offset_shape, offset_accept, scan_below}
 use Rattle.fields.proofs.offset_field.Goals as goal
-use Rattle.fields.proofs.offset_field.Goals.{then-bytes-at-eq48+else-at-e, else-bytes-at-eq48}
+use Rattle.fields.proofs.offset_field.Goals.{else-w-at-eq48-via-then-w-at-eq48+else-at-e, else-w-at-eq48-via-else-w-at-eq48}
 
--- a trace has one digit or three behind the point
+-- a trace has one digit or three after the point
 three : {digits : ℕ} → (digits ≡ 1) ⊎ (digits ≡ 3) → digits ≤ 3
 three h = ⊎_elim (λ e. omega arith) (λ e. omega arith) h
 
 pub returns-then-e-at : goal.returns-then-e-at
-returns-then-e-at c = not c.none.ensures (λ f rest a v p. let h = offset_shape (three c.requires.1) c.decimal-s.ensures a p in omega arith)
+returns-then-e-at c = λ f rest a v p. let h = offset_shape (three c.requires.1) c.decimal-s.ensures a p in omega arith
 
 pub returns-then-at-e : goal.returns-then-at-e
 returns-then-at-e c =
-    not c.none-then-at-e.ensures (λ f rest a v p.
-    (offset_shape (three c.requires.1) c.decimal-s.ensures a p).lead c.if-at-e.true c.if-bytes-at-eq48.true)
+    λ f rest a v p. let h = offset_shape (three c.requires.1) c.decimal-s.ensures a p in h.lead c.if-at-e.true c.if-w-at-eq48.true
 
-pub bounds-bytes-e : goal.bounds-bytes-e
-bounds-bytes-e c = inside c.args.w.now c.decimal-s.result.end c.decimal-s.ensures.lined
+pub bounds-w-e : goal.bounds-w-e
+bounds-w-e c = omega (arith, inside c.args.w.now c.decimal-s.result.end c.decimal-s.ensures.lined)
 
-pub returns-then-bytes-e-ne46 : goal.returns-then-bytes-e-ne46
-returns-then-bytes-e-ne46 c =
-    not c.none-then-bytes-e-ne46.ensures (λ f rest a v p.
-    c.if-bytes-e-ne46.true (offset_shape (three c.requires.1) c.decimal-s.ensures a p).point)
+pub returns-then-w-e-ne46 : goal.returns-then-w-e-ne46
+returns-then-w-e-ne46 c =
+    λ f rest a v p. let h = offset_shape (three c.requires.1) c.decimal-s.ensures a p in c.if-w-e-ne46.true h.point
 
 pub decimal-t-requires : goal.decimal-t-requires
-decimal-t-requires c = goes_on c.args.w.now c.decimal-s.result.end 46 c.decimal-s.ensures.lined c.if-bytes-e-ne46.false (omega arith)
+decimal-t-requires c = goes_on c.args.w.now c.decimal-s.result.end 46 c.decimal-s.ensures.lined c.if-w-e-ne46.false (omega arith)
 
 pub returns-then-f-e : goal.returns-then-f-e
 returns-then-f-e c =
-    not c.none-then-f-e.ensures (λ f rest a v p.
-    let h = (offset_shape (three c.requires.1) c.decimal-s.ensures a p).tail c.decimal-t.ensures in c.if-f-e.true (omega arith))
+    λ f rest a v p.
+    let h = (offset_shape (three c.requires.1) c.decimal-s.ensures a p).tail c.decimal-t.ensures in c.if-f-e.true (omega arith)
 
 pub returns-then-not-ends : goal.returns-then-not-ends
 returns-then-not-ends c =
-    not c.none-then-not-ends.ensures (λ f rest a v p.
-    refuted c.ends.result c.if-not-ends.true c.ends.ensures
-    ((offset_shape (three c.requires.1) c.decimal-s.ensures a p).tail c.decimal-t.ensures).stop)
+    λ f rest a v p.
+    let h = (offset_shape (three c.requires.1) c.decimal-s.ensures a p).tail c.decimal-t.ensures in c.if-not-ends.ensures h.stop
 
 pub overflow_mul-value : goal.overflow_mul-value
 overflow_mul-value c = omega (arith, scan_below c.decimal-s.ensures)
@@ -55,10 +50,10 @@ overflow_add-value c = omega (arith, scan_below c.decimal-s.ensures, scan_below 
 
 pub returns-then-value-gt-OFFSET_LIMIT : goal.returns-then-value-gt-OFFSET_LIMIT
 returns-then-value-gt-OFFSET_LIMIT c =
-    not c.none-then-value-gt-OFFSET_LIMIT.ensures (λ f rest a v p.
+    λ f rest a v p.
     let h = ((offset_shape (three c.requires.1) c.decimal-s.ensures a p).tail c.decimal-t.ensures).within in
     let g = rw (← (ap (λ (n : ℕ). c.decimal-s.result.value * 1000 + n) c.micros.ensures.0)) at h in
-    omega arith)
+    omega arith
 
 pub returns : goal.returns
 returns c =
@@ -68,9 +63,9 @@ returns c =
     let f = c.decimal-s.ensures.from in
     let g = c.decimal-t.ensures.from in
     offset_accept _ c.decimal-s.ensures c.decimal-t.ensures (omega arith)
-    (λ l z. elim c.if-bytes-at-eq48.branch [
-      | then-bytes-at-eq48+else-at-e w ↦ absurd (omega arith)
-      | else-bytes-at-eq48 w ↦ w.if-bytes-at-eq48.false z
+    (λ l z. elim c.else-w-at-eq48.branch [
+      | else-w-at-eq48-via-then-w-at-eq48+else-at-e w ↦ absurd (omega arith)
+      | else-w-at-eq48-via-else-w-at-eq48 w ↦ w.if-w-at-eq48.false z
     ])
-    c.if-bytes-e-ne46.false
-    (record { width = omega arith; stop = shown c.ends.result c.if-not-ends.false c.ends.ensures; within = rw (← e) (omega arith) }) e
+    c.if-w-e-ne46.false
+    (record { width = omega arith; stop = c.if-not-ends.ensures; within = rw (← e) (omega arith) }) e

@@ -4,7 +4,7 @@ use mathlib.Core.Path.{◌≡◌, refl, ap}
 use mathlib.Core.List.{List, [], ◌∷◌}
 use native.Mathlib.Omega.{arith}
 use lib.ListN.{length, get_or}
-use Rattle.fields.specs.inner.Window.{Starts, taken, not}
+use Rattle.fields.specs.inner.Window.{Starts}
 use Rattle.fields.proofs.FixedFields.{StandsAt, first, then, here, ended, unended, solid_at}
 use Rattle.fields.proofs.remote_field.Goals as goal
 
@@ -16,21 +16,26 @@ three : {w : List ℕ} {at : ℕ} → Starts w at → get_or w at 0 ≡ 82 → g
     → StandsAt (82 ∷ 84 ∷ 82 ∷ []) w at
 three s e f g = then (two s e f) (solid_at 82 (omega arith)) g
 
-pub bounds-bytes-at-3 : goal.bounds-bytes-at-3
-bounds-bytes-at-3 c = omega (arith, here (two c.requires c.if-bytes-at-ne82.false c.if-bytes-at-ne84.false))
+pub bounds-w-at-else-w-at-ne84 : goal.bounds-w-at-else-w-at-ne84
+bounds-w-at-else-w-at-ne84 c = omega (arith, here (two c.requires c.if-w-at-ne82.false c.if-w-at-ne84.false))
 
-pub bounds-bytes-at-4 : goal.bounds-bytes-at-4
-bounds-bytes-at-4 c = omega (arith, here (three c.requires c.if-bytes-at-ne82.false c.if-bytes-at-ne84.false c.if-bytes-at-ne82-2.false))
+pub bounds-w-at-2 : goal.bounds-w-at-2
+bounds-w-at-2 c = omega (arith, here (three c.requires c.if-w-at-ne82.false c.if-w-at-ne84.false c.if-w-at-ne82-2.false))
 
 pub returns-then-not-ends : goal.returns-then-not-ends
 returns-then-not-ends c =
     let e = c.ends in
-    not c.none-then-not-ends.ensures (λ f rest a v p.
-    unended (three c.requires c.if-bytes-at-ne82.false c.if-bytes-at-ne84.false c.if-bytes-at-ne82-2.false)
-    e.result e.ensures c.if-not-ends.true a (ap length p))
+    λ f rest a v p.
+    unended (three c.requires c.if-w-at-ne82.false c.if-w-at-ne84.false c.if-w-at-ne82-2.false)
+    e.result e.ensures c.if-not-ends.true a (ap length p)
 
 pub returns : goal.returns
 returns c =
     let e = c.ends in
-    taken (ended (three c.requires c.if-bytes-at-ne82.false c.if-bytes-at-ne84.false c.if-bytes-at-ne82-2.false) (omega arith)
-    e.result e.ensures c.if-not-ends.false) refl refl
+    record {
+      field = _;
+      there = ended (three c.requires c.if-w-at-ne82.false c.if-w-at-ne84.false c.if-w-at-ne82-2.false) (omega arith)
+          e.result e.ensures c.if-not-ends.false;
+      place = refl;
+      has = refl;
+    }

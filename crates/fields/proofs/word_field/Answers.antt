@@ -1,34 +1,25 @@
 -- `fields::word_field` keeps: the bytes passed are capitals.
+use mathlib.Core.Logic.{⊎_elim}
 use native.Mathlib.Omega.{arith}
-use Rattle.fields.specs.inner.Window.{taken, not}
-use Rattle.base.proofs.Tests.{shown}
 use Rattle.fields.proofs.FixedFields.{is_solid, no_capitals, behind, more_capitals, no_word, a_word, word_end}
 use Rattle.fields.proofs.word_field.Goals as goal
 
-pub loop-bytes-init : goal.loop-bytes-init
-loop-bytes-init c = no_capitals c.requires
+pub loop-i-init : goal.loop-i-init
+loop-i-init c = no_capitals c.requires
 
-pub bounds-bytes-i : goal.bounds-bytes-i
-bounds-bytes-i c = behind c.loop-bytes.invariant
+pub returns-then-ends : goal.returns-then-ends
+returns-then-ends c =
+    let l = c.loop-i.invariant in
+    record { field = _; there = a_word l c.requires c.if-ends.ensures; place = word_end l; has = l.all }
 
-pub bounds-bytes-i-in-loop-bytes : goal.bounds-bytes-i-in-loop-bytes
-bounds-bytes-i-in-loop-bytes c = behind c.loop-bytes.invariant
+pub returns-then-b-lt65 : goal.returns-then-b-lt65
+returns-then-b-lt65 c =
+    λ f rest a v p.
+    no_word c.loop-i.invariant (is_solid c.ends.result c.ends.ensures c.if-ends.false)
+    (λ q. ⊎_elim (λ h. omega arith) (λ h. omega arith) c.then-b-lt65.either) a p
 
-pub returns-then-bytes-i-lt65 : goal.returns-then-bytes-i-lt65
-returns-then-bytes-i-lt65 c =
-    not c.none.ensures (λ f rest a v p.
-    no_word c.loop-bytes.invariant (is_solid c.ends.result c.ends.ensures c.loop-bytes-test.true) (λ q. omega arith) a p)
+pub loop-i-preserved : goal.loop-i-preserved
+loop-i-preserved c = more_capitals c.loop-i.invariant c.if-b-lt65.false c.if-b-gt90.false
 
-pub returns-then-bytes-i-gt90 : goal.returns-then-bytes-i-gt90
-returns-then-bytes-i-gt90 c =
-    not c.none-then-bytes-i-gt90.ensures (λ f rest a v p.
-    no_word c.loop-bytes.invariant (is_solid c.ends.result c.ends.ensures c.loop-bytes-test.true) (λ q. omega arith) a p)
-
-pub loop-bytes-preserved : goal.loop-bytes-preserved
-loop-bytes-preserved c = more_capitals c.loop-bytes.invariant c.if-bytes-i-lt65.false c.if-bytes-i-gt90.false
-
-pub returns : goal.returns
-returns c =
-    let l = c.loop-bytes.invariant in
-    let e = shown c.ends.result c.loop-bytes-test.false c.ends.ensures in
-    taken (a_word l c.requires e) (word_end l) l.all
+pub unreachable-requires : goal.unreachable-requires
+unreachable-requires c = omega (arith, behind c.loop-i.invariant)

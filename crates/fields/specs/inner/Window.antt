@@ -1,9 +1,11 @@
--- Reading single fields of a window: what the field readers promise. A window is a line, CR, and whatever is behind it.
-use Rattle.std.specs.Prelude.{ℕ, ◌+◌, ◌≤◌, ◌<◌, ◌≡◌, ◌≢◌, List, ◌∷◌, ◌++◌, length, get_or, drop}
+-- Reading single fields of a window: what the field readers promise. A window is a line, CR, and whatever is after it.
+use Rattle.std.specs.Prelude.{Option, Some, None, ℕ, ◌+◌, ◌≤◌, ◌<◌, ◌≡◌, ◌≢◌, List, ◌∷◌, ◌++◌, length, get_or, drop}
 use Rattle.std.proofs.Math.Seq.{slice}
 use Rattle.base.specs.Text.{blank, cr}
 use Rattle.digits.specs.Digits.{Digits, Hex}
 use Rattle.fields.specs.declared.Scan.{Scan}
+use Rattle.fields.specs.declared.Next.{Next}
+use Rattle.fields.specs.declared.Next.TheVariants as next
 use Rattle.fields.specs.Runs.{All, Stops}
 use Rattle.fields.specs.Columns.{type_rx, type_tx, type_warng, type_error}
 
@@ -38,7 +40,7 @@ pub record Skipped (w : List ℕ) (at a : ℕ) : Type 0 where
   pub stop : get_or w a 0 ≢ blank
   pub lined : Lined (drop a w)
 
--- The field f stands at the start of s, and rest behind it.
+-- The field f stands at the start of s, and rest after it.
 pub record FieldAt (f rest s : List ℕ) : Type 0 where
   pub bytes : s ≡ f ++ rest
   pub some : 0 < length f
@@ -53,15 +55,38 @@ pub record Scanned (D : ℕ → ℕ → Type 0) (b most : ℕ) (w : List ℕ) (a
   pub stop : s.end < at + most → (d : ℕ) → D (get_or w s.end 0) d → ⊥
   pub lined : Lined (drop s.end w)
 
--- A field starts at this place of the window, and its line ends behind it.
+-- A field starts at this place of the window, and its line ends after it.
 pub record Starts (w : List ℕ) (at : ℕ) : Type 0 where
   pub lined : Lined (drop at w)
   pub solid : Solid (get_or w at 0)
 
--- The field at this place has P of the value, and ends before s.end; or s.end is 0 and it has P of none.
-pub data Takes (P : ℕ → List ℕ → Type 0) (w : List ℕ) (at : ℕ) (s : Scan) : Type 0 where
-  taken : {f : List ℕ} → FieldAt f (drop s.end w) (drop at w) → s.end ≡ at + length f → P s.value f → Takes P w at s
-  not : s.end ≡ 0 → ((f rest : List ℕ) → FieldAt f rest (drop at w) → (v : ℕ) → P v f → ⊥) → Takes P w at s
+-- A field stands at this place and ends before s.end, and P holds of it and of the value.
+pub record Taken (P : ℕ → List ℕ → Type 0) (w : List ℕ) (at : ℕ) (s : Scan) : Type 0 where
+  pub field : List ℕ
+  pub there : FieldAt field (drop s.end w) (drop at w)
+  pub place : s.end ≡ at + length field
+  pub has : P s.value field
+
+-- The field at this place, and the value for which P holds of it; or P holds of it for none.
+abbrev pub Takes : (ℕ → List ℕ → Type 0) → List ℕ → ℕ → Option Scan → Type 0
+Takes P w at (Some s) = Taken P w at s
+Takes P w at None = (f rest : List ℕ) → FieldAt f rest (drop at w) → (v : ℕ) → P v f → ⊥
+
+-- The gap at this place ends where a field starts.
+pub record FieldAfter (w : List ℕ) (at a : ℕ) : Type 0 where
+  pub skipped : Skipped w at a
+  pub starts : Starts w a
+
+-- The gap at this place ends at the line's CR.
+pub record EndAfter (w : List ℕ) (at a : ℕ) : Type 0 where
+  pub skipped : Skipped w at a
+  pub end : get_or w a 0 ≡ cr
+  pub within : a < window_bytes
+
+-- What stands after the gap at this place.
+abbrev pub AfterGap : List ℕ → ℕ → Next → Type 0
+AfterGap w at (next.Field a) = FieldAfter w at a
+AfterGap w at (next.End a) = EndAfter w at a
 
 -- What the readers of single fields take.
 

@@ -1,12 +1,7 @@
 -- `lines::inside_end` keeps: the bytes passed are inside a line.
-use Prim.Native.Nat.{◌-◌}
-use lib.ListN.{length}
 use Rattle.lines.specs.Lines.{Inside}
 use Rattle.lines.proofs.Scans.{Passed}
 use Rattle.lines.proofs.inside_end.Given as goal
 
 abbrev pub invariant-loop-e : goal.invariant-loop-e
 invariant-loop-e l = Passed Inside l.text l.at l.e
-
-abbrev pub decreases-loop-e : goal.decreases-loop-e
-decreases-loop-e l = length l.text - l.e

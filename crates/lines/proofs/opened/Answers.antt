@@ -1,8 +1,7 @@
 -- `lines::opened` finds the place behind `;` and blanks.
 use native.Mathlib.Omega.{arith}
-use Rattle.lines.specs.inner.Parts.{opened}
 use Rattle.lines.proofs.Scans.{blanks_ran, opens}
 use Rattle.lines.proofs.opened.Goals as goal
 
 pub returns : goal.returns
-returns c = opened (opens (omega arith) c.if-line-ne59.false (blanks_ran c.run_end.ensures))
+returns c = opens (omega arith) c.if-line-ne59.false (blanks_ran c.run_end.ensures)

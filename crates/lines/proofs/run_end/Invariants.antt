@@ -1,12 +1,7 @@
 -- `lines::run_end` keeps: the bytes passed stand between the two.
-use Prim.Native.Nat.{◌-◌}
-use lib.ListN.{length}
 use Rattle.lines.specs.inner.Parts.{Between}
 use Rattle.lines.proofs.Scans.{Passed}
 use Rattle.lines.proofs.run_end.Given as goal
 
 abbrev pub invariant-loop-e : goal.invariant-loop-e
 invariant-loop-e l = Passed (Between l.first l.last) l.line l.at l.e
-
-abbrev pub decreases-loop-e : goal.decreases-loop-e
-decreases-loop-e l = length l.line - l.e

@@ -1,14 +1,12 @@
 -- What the readers of parts of a line promise to those that put them together.
-use Rattle.std.specs.Prelude.{ℕ, ◌/◌, ◌%◌, ◌≤◌, ◌≡◌, List, ◌∷◌, ◌++◌, length, drop}
+use Rattle.std.specs.Prelude.{Option, Some, None, ℕ, ◌/◌, ◌%◌, ◌≤◌, ◌≡◌, List, ◌∷◌, ◌++◌, length, drop}
 use Rattle.std.proofs.Math.Seq.{slice}
 use Rattle.base.specs.Text.{blank, semicolon, point}
 use Rattle.digits.specs.Digits.{DecimalDigit}
 use Rattle.digits.specs.House.{figure_of}
 use Rattle.fields.specs.Runs.{All, Stops}
 use Rattle.row.specs.Versions.{Version}
-use Rattle.lines.specs.declared.StartTime.{StartTime}
-use Rattle.lines.specs.declared.StartTime.TheVariants as start-time
-use Rattle.lines.specs.Lines.{Blanks, StartDigits}
+use Rattle.lines.specs.Lines.{Blanks}
 
 abbrev pub IsBlank : ℕ → Type 0
 IsBlank b = b ≡ blank
@@ -38,10 +36,10 @@ pub record Opened (line : List ℕ) (at : ℕ) : Type 0 where
   pub blanks : Blanks before
   pub stops : Stops IsBlank (drop at line)
 
--- That place, or 0 if the line does not start with `;`.
-pub data OpenedOr0 (line : List ℕ) (at : ℕ) : Type 0 where
-  opened : Opened line at → OpenedOr0 line at
-  none : at ≡ 0 → ((rest : List ℕ) → line ≡ semicolon ∷ rest → ⊥) → OpenedOr0 line at
+-- That place, or none where the line does not start with `;`.
+abbrev pub OpenedOr : List ℕ → Option ℕ → Type 0
+OpenedOr line (Some at) = Opened line at
+OpenedOr line None = (rest : List ℕ) → line ≡ semicolon ∷ rest → ⊥
 
 -- The bytes t stand in s from `at` on.
 pub record StandsAt (t s : List ℕ) (at : ℕ) : Type 0 where
@@ -54,13 +52,3 @@ pub record Figures (a dot b version : ℕ) : Type 0 where
   pub first : a ≡ figure_of (version / 10)
   pub between : dot ≡ point
   pub second : b ≡ figure_of (version % 10)
-
--- Their version, or 0 if they are those of none.
-pub data FiguresOr0 (a dot b v : ℕ) : Type 0 where
-  figures : Figures a dot b v → FiguresOr0 a dot b v
-  no_figures : v ≡ 0 → ((u : ℕ) → Figures a dot b u → ⊥) → FiguresOr0 a dot b v
-
--- The start that the digits of a start line give, or that they give none.
-abbrev pub StartOfDigits : List ℕ → List ℕ → StartTime → Type 0
-StartOfDigits day fraction (start-time.Ms s) = StartDigits day fraction s
-StartOfDigits day fraction start-time.Not = (s : ℕ) → StartDigits day fraction s → ⊥

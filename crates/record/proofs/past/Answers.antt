@@ -1,17 +1,12 @@
 -- `record::past` meets its contract.
-use Prim.Native.Nat.{◌-◌}
-use mathlib.Core.Path.{◌≡◌}
-use native.Mathlib.Omega.{arith}
+use Prim.Native.Nat.{◌*◌, ◌%◌, ◌^◌}
+use lib.Dec.{eqb}
+use Rattle.base.proofs.Tests.{same_test, equal}
 use Rattle.record.proofs.Shift.{zero_past, past_zero}
 use Rattle.record.proofs.past.Goals as goal
 
-pub returns-then-len-eq8 : goal.returns-then-len-eq8
-returns-then-len-eq8 c =
-    let e : 8 - c.args.len ≡ 0 = omega arith in
-    rw e (omega arith)
-
-pub returns-then-d-len-ne0 : goal.returns-then-d-len-ne0
-returns-then-d-len-ne0 c = λ z. c.if-d-len-ne0.true (past_zero c.args.d c.args.len (omega arith) z)
-
-pub returns : goal.returns
-returns c = zero_past c.args.d c.args.len (omega arith) (omega arith)
+pub returns-else-len-eq8 : goal.returns-else-len-eq8
+returns-else-len-eq8 c =
+    let a = c.args in
+    let n = a.d * 2 ^ (a.len * 8) % 2 ^ 64 in
+    same_test (eqb n 0) (zero_past a.d a.len c.requires) (past_zero a.d a.len c.requires) (equal n 0)

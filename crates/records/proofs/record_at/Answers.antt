@@ -1,10 +1,11 @@
 -- `records::record_at` meets its contract.
-use Prim.Native.Nat.{ℕ, ◌+◌, ◌-◌}
-use mathlib.Core.Path.{◌≡◌, ap, sym, ◌∙◌}
-use native.Mathlib.Omega.{arith}
+use Rattle.std.proofs.Common.{ℕ, ◌≡◌, ◌+◌, ◌-◌, ap, sym, ◌∙◌, arith, Some, Result, Ok, Err}
+use Rattle.std.specs.Result.{result_ok}
+use Rattle.base.specs.declared.refusal.Refused.{Refused}
 use Rattle.record.specs.declared.Record.{Record}
-use Rattle.record.proofs.Promises.{unpacked_fields, unpacked_not_twenty, unpacked_malformed}
-use Rattle.record.proofs.OneRecord.{packed_length, one_marked}
+use Rattle.record.specs.declared.Unpacked.{Unpacked}
+use Rattle.record.proofs.Promises.{unpacked_fields}
+use Rattle.record.proofs.OneRecord.{one_marked}
 use Rattle.records.specs.Records.{mark_after}
 use Rattle.records.proofs.record_at.Goals as goal
 
@@ -12,23 +13,13 @@ use Rattle.records.proofs.record_at.Goals as goal
 part : (at : ℕ) → at + 20 - at ≡ 20
 part at = omega arith
 
+was_ok : {u : Unpacked} (r : Result Unpacked Refused) → Some u ≡ result_ok r → r ≡ Ok u
+was_ok (Ok v) e = cc
+was_ok (Err d) e = cc
+
 pub returns-then-mark-mark_after : goal.returns-then-mark-mark_after
 returns-then-mark-mark_after c r p =
-    let u = rw c.in-Fields.is at c.unpack-u.ensures in
-    let z = one_marked p (rw (part c.args.at) at (unpacked_fields c.in-Fields.r u)) in
+    let v = c.in_ok-r.field-0 in
+    let u = rw (was_ok c.unpack.result c.in_ok-r.ensures.value) at c.unpack.ensures in
+    let z = one_marked p (rw (part c.args.at) at (unpacked_fields v.r u)) in
     c.if-mark-mark_after.true (sym z.1 ∙ ap (λ (x : Record). mark_after c.args.before x.offset) z.0 ∙ sym c.mark_after.ensures)
-
-pub returns-else-mark-mark_after : goal.returns-else-mark-mark_after
-returns-else-mark-mark_after c =
-    let u = rw c.in-Fields.is at c.unpack-u.ensures in
-    rw c.mark_after.ensures at (rw c.if-mark-mark_after.false at (rw (part c.args.at) at (unpacked_fields c.in-Fields.r u)))
-
-pub returns-in-NotTwenty : goal.returns-in-NotTwenty
-returns-in-NotTwenty c r p =
-    let u = rw c.in-NotTwenty.is at c.unpack-u.ensures in
-    unpacked_not_twenty (rw (part c.args.at) at u) (packed_length p)
-
-pub returns-in-Malformed : goal.returns-in-Malformed
-returns-in-Malformed c r p =
-    let u = rw c.in-Malformed.is at c.unpack-u.ensures in
-    (unpacked_malformed (rw (part c.args.at) at u)).1 r (mark_after c.args.before r.offset) p

@@ -1,13 +1,12 @@
 -- `row_reader::expected_number` is the number that is asked for, or the one that stands behind the gap.
-use native.Mathlib.Omega.{arith}
-use Rattle.row_reader.proofs.Chain.{gap_starts_at}
-use Rattle.row_reader.proofs.Numbers.{number_there, no_number_there}
+use Rattle.row_reader.proofs.Numbers.{number_there, no_number_there, no_field_there}
 use Rattle.row_reader.proofs.expected_number.Goals as goal
 
-pub returns-then-at_end : goal.returns-then-at_end
-returns-then-at_end c = no_number_there c.skip_in-a.ensures.skipped (omega arith) c.at_end.ensures c.if-at_end.true
+pub returns-in_default : goal.returns-in_default
+returns-in_default c = no_field_there c.if-e-ne0.false c.in_default.ensures
+
+pub returns-in_default-number_field : goal.returns-in_default-number_field
+returns-in_default-number_field c = no_number_there c.if-e-ne0.false c.in-Field.ensures c.in_default-number_field.ensures
 
 pub returns : goal.returns
-returns c =
-    let k = c.skip_in-a.ensures.skipped in number_there k (omega arith) (gap_starts_at k c.at_end.ensures c.if-at_end.false)
-    c.number_field-s.ensures
+returns c = number_there c.if-e-ne0.false c.in-Field.ensures c.in-Some.ensures

@@ -22,12 +22,12 @@ returns-then-r-eq1 c =
     let e = remote_data c.args.r c.if-r-eq1.true in
     rw e (then c.put_byte-p.ensures c.put_three.ensures)
 
-pub put_pairs-requires : goal.put_pairs-requires
-put_pairs-requires c =
+pub put-requires : goal.put-requires
+put-requires c =
     let r = c.args.r in
     omega (arith, ap (λ fs. length (spaced fs)) (data_bytes r c.if-r-eq1.false), length_bytes Capital (256 ^ 7) r.len r.«data»)
 
 pub returns : goal.returns
 returns c =
     let e = data_bytes c.args.r c.if-r-eq1.false in
-    rw e (c.put_pairs.ensures Capital c.requires.pairs_of)
+    rw e (rw c.requires.capital at c.put.ensures)

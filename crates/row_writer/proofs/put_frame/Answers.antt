@@ -17,7 +17,7 @@ pub put_byte-t-requires : goal.put_byte-t-requires
 put_byte-t-requires c = omega (arith, frame_length c.args.r)
 
 pub put_data-requires : goal.put_data-requires
-put_data-requires c = record { len_bound = omega (arith, frame_length c.args.r); pairs_of = c.requires.pairs_of }
+put_data-requires c = record { in_bounds = omega (arith, frame_length c.args.r); capital = c.requires.capital }
 
 pub returns : goal.returns
 returns c =

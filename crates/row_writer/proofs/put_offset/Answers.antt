@@ -2,12 +2,11 @@
 use mathlib.Core.Path.{sym, ◌∙◌}
 use native.Mathlib.Omega.{arith}
 use Rattle.base.proofs.Lists.{then}
-use Rattle.row.specs.Versions.{fraction_digits}
 use Rattle.row_writer.proofs.Columns.{offset_one, offset_three, length_offset, three_digits}
 use Rattle.row_writer.proofs.put_offset.Goals as goal
 
-pub put_kept-q-requires : goal.put_kept-q-requires
-put_kept-q-requires c = record { kept = c.requires.kept; n_in_bounds = omega (arith, length_offset c.args.version c.args.offset) }
+pub put-q-requires : goal.put-q-requires
+put-q-requires c = omega (arith, length_offset c.args.version c.args.offset)
 
 pub put_byte-s-requires : goal.put_byte-s-requires
 put_byte-s-requires c = let a = c.args in omega (arith, length_offset a.version a.offset)
@@ -21,7 +20,7 @@ pub returns-then-fraction_digits-eq1 : goal.returns-then-fraction_digits-eq1
 returns-then-fraction_digits-eq1 c =
     let a = c.args in
     let e = offset_one a.version a.offset (sym c.fraction_digits.ensures ∙ c.if-fraction_digits-eq1.true) in
-    rw e (then c.put_byte-p.ensures (then c.put_kept-q.ensures (then c.put_byte-s.ensures c.put_padded.ensures.wrote)))
+    rw e (then c.put_byte-p.ensures (then c.put-q.ensures (then c.put_byte-s.ensures c.put_padded.ensures.wrote)))
 
 pub put_padded-requires-2 : goal.put_padded-requires-2
 put_padded-requires-2 c =
@@ -34,4 +33,4 @@ returns c =
     let a = c.args in
     let d = three_digits a.version (λ e. c.if-fraction_digits-eq1.false (c.fraction_digits.ensures ∙ e)) in
     let e = offset_three a.version a.offset d in
-    rw e (then c.put_byte-p.ensures (then c.put_kept-q.ensures (then c.put_byte-s.ensures c.put_padded-2.ensures.wrote)))
+    rw e (then c.put_byte-p.ensures (then c.put-q.ensures (then c.put_byte-s.ensures c.put_padded-2.ensures.wrote)))

@@ -1,5 +1,5 @@
 -- `stages::take_field` hands the field to its stage.
-use Rattle.stages.proofs.Laws.{asked, asked_hex, answered}
+use Rattle.stages.proofs.Laws.{asked, answered}
 use Rattle.stages.proofs.take_field.Goals as goal
 
 pub offset-requires : goal.offset-requires
@@ -12,37 +12,37 @@ pub type_column-requires : goal.type_column-requires
 type_column-requires c = asked c.args.p c.in-TypeColumn.is c.requires
 
 pub id-requires : goal.id-requires
-id-requires c = asked_hex c.args.p c.in-Id.is c.requires
+id-requires c = asked c.args.p c.in-Id.is c.requires
 
 pub length-requires : goal.length-requires
 length-requires c = asked c.args.p c.in-Length.is c.requires
 
 pub data-requires : goal.data-requires
-data-requires c = asked_hex c.args.p c.in-Data.is c.requires
+data-requires c = asked c.args.p c.in-Data.is c.requires
 
 pub bytes-requires : goal.bytes-requires
-bytes-requires c = asked_hex c.args.p c.in-Bytes.is c.requires
+bytes-requires c = asked c.args.p c.in-Bytes.is c.requires
 
 pub warning_id-requires : goal.warning_id-requires
-warning_id-requires c = asked_hex c.args.p c.in-WarningId.is c.requires
+warning_id-requires c = asked c.args.p c.in-WarningId.is c.requires
 
 pub warning_length-requires : goal.warning_length-requires
 warning_length-requires c = asked c.args.p c.in-WarningLength.is c.requires
 
 pub warning_bytes-requires : goal.warning_bytes-requires
-warning_bytes-requires c = asked_hex c.args.p c.in-WarningBytes.is c.requires
+warning_bytes-requires c = asked c.args.p c.in-WarningBytes.is c.requires
 
 pub error_id-requires : goal.error_id-requires
-error_id-requires c = asked_hex c.args.p c.in-ErrorId.is c.requires
+error_id-requires c = asked c.args.p c.in-ErrorId.is c.requires
 
 pub error_length-requires : goal.error_length-requires
 error_length-requires c = asked c.args.p c.in-ErrorLength.is c.requires
 
 pub error_first-requires : goal.error_first-requires
-error_first-requires c = asked_hex c.args.p c.in-ErrorFirst.is c.requires
+error_first-requires c = asked c.args.p c.in-ErrorFirst.is c.requires
 
 pub error_second-requires : goal.error_second-requires
-error_second-requires c = asked_hex c.args.p c.in-ErrorSecond.is c.requires
+error_second-requires c = asked c.args.p c.in-ErrorSecond.is c.requires
 
 pub returns-in-Offset : goal.returns-in-Offset
 returns-in-Offset c = answered c.args.p c.in-Offset.is c.offset.ensures

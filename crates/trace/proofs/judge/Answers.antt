@@ -1,7 +1,7 @@
 -- `trace::judge` keeps: the lines up to `at` are judged, and spell the rows counted; the window holds bytes of the text.
 use native.Mathlib.Omega.{arith}
 use Rattle.trace.proofs.Judging.{judging, noted, next_fits, rows_below, counted_row, refused_line, finished}
-use Rattle.trace.proofs.Rows.{lined, number_expected, none_expected, was_found, not_found}
+use Rattle.trace.proofs.Rows.{lined, number_expected, none_expected}
 use Rattle.trace.proofs.judge.Goals as goal
 
 pub loop-at-init : goal.loop-at-init
@@ -13,29 +13,28 @@ overflow_add-first c = omega (arith, next_fits c.loop-at.invariant.0)
 pub expected_number-k-requires : goal.expected_number-k-requires
 expected_number-k-requires c = lined c.window_at-base.ensures c.loop-at.invariant.0.within
 
-pub loop-at-preserved-in-Note : goal.loop-at-preserved-in-Note
-loop-at-preserved-in-Note c =
-    let s = rw c.in-Note.is at c.other_at-l.ensures in
+pub loop-at-preserved : goal.loop-at-preserved
+loop-at-preserved c =
+    let s = c.in-Ok.ensures in
     let w = c.window_at-base.ensures in
     let a = s.1.later in
     let b = w.starts in
     (noted c.loop-at.invariant.0 s.0 s.1 s.2, w.windowed, omega arith)
 
-pub returns-in-Bad : goal.returns-in-Bad
-returns-in-Bad c =
+pub returns-in-Err : goal.returns-in-Err
+returns-in-Err c =
     let j = c.loop-at.invariant.0 in
-    let f = not_found c.row_at-next.ensures c.if-next-eq0.true in
-    let n = none_expected c.window_at-base.ensures j.within c.expected_number-k.ensures f in
-    refused_line j c.requires.1 c.loop-at-test.true n (rw c.in-Bad.is at c.other_at-l.ensures)
+    let n = none_expected c.window_at-base.ensures j.within c.expected_number-k.ensures c.in-None.ensures in
+    rw c.at.ensures (refused_line j c.requires.1 c.loop-at-test.true n c.in-Err.ensures)
 
 pub overflow_sub-first : goal.overflow_sub-first
 overflow_sub-first c =
     let j = c.loop-at.invariant.0 in
     omega (arith, rows_below j (number_expected c.window_at-base.ensures j.within c.expected_number-k.ensures))
 
-pub loop-at-preserved : goal.loop-at-preserved
-loop-at-preserved c =
-    let f = was_found c.row_at-next.ensures c.if-next-eq0.false in
+pub loop-at-preserved-in-Some : goal.loop-at-preserved-in-Some
+loop-at-preserved-in-Some c =
+    let f = c.in-Some.ensures in
     let w = c.window_at-base.ensures in
     let j = c.loop-at.invariant.0 in
     let a = f.there.later in

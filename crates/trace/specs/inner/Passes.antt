@@ -1,20 +1,18 @@
 -- What the passes of the reader promise each other. No public promise cites this file.
-use Rattle.std.specs.Prelude.{ℕ, ◌+◌, ◌*◌, ◌-◌, ◌≤◌, ◌<◌, ◌≡◌, List, [], ◌∷◌, ◌++◌, length, take, drop}
+use Rattle.std.specs.Prelude.{Option, Some, None, Result, Ok, Err, ℕ, ◌+◌, ◌*◌, ◌-◌, ◌≤◌, ◌<◌, ◌≡◌, List, [], ◌∷◌, ◌++◌, length, take, drop}
 use Rattle.base.specs.Text.{cr}
 use Rattle.record.specs.declared.Record.{Record}
-use Rattle.record.specs.Promise.{fields_of}
 use Rattle.records.specs.Records.{packed}
 use Rattle.records.specs.StepBack.{step_back}
 use Rattle.fields.specs.inner.Window.{window_bytes}
 use Rattle.row.specs.Versions.{head_lines}
 use Rattle.row.specs.Row.{Row}
 use Rattle.lines.specs.Lines.{line_limit, FirstLine, VersionLine, Comment, DollarLine}
-use Rattle.trace.specs.declared.Other.{Other}
-use Rattle.trace.specs.declared.Other.TheVariants as an
+use Rattle.base.specs.declared.refusal.Refusal.{Refusal}
+use Rattle.base.specs.declared.refusal.Refused.{Refused}
+use Rattle.base.specs.Refusal.{number_of}
 use Rattle.trace.specs.declared.Heading.{Heading}
-use Rattle.trace.specs.declared.Heading.TheVariants as heading
 use Rattle.trace.specs.declared.Judged.{Judged}
-use Rattle.trace.specs.declared.Judged.TheVariants as judged
 use Rattle.trace.specs.Trace.{Trace, trace_of, Line, Spells}
 use Rattle.trace.specs.Promise.{EndedLines, RefusedAtLine}
 
@@ -46,11 +44,16 @@ pub record Reaches (text : List ℕ) (at from : ℕ) (w : List ℕ) : Type 0 whe
 abbrev pub NoRow : List ℕ → ℕ → ℕ → ℕ → Type 0
 NoRow text at version k = (r : Record) (line after : List ℕ) → Line line after (drop at text) → Row version k r line → ⊥
 
--- Row k stands at `at`, and the next line at `next`; or `next` is 0, and no line there is row k.
-pub data RowAt (text : List ℕ) (at version k : ℕ) (fields : List ℕ) (next : ℕ) : Type 0 where
-  here : {r : Record} {line : List ℕ} → There text at next line → Row version k r line → fields ≡ fields_of r
-      → RowAt text at version k fields next
-  nowhere : next ≡ 0 → NoRow text at version k → RowAt text at version k fields next
+-- Row k stands at `at` with this record, and the next line at `next`.
+pub record RowHere (text : List ℕ) (at version k : ℕ) (r : Record) (next : ℕ) : Type 0 where
+  pub line : List ℕ
+  pub there : There text at next line
+  pub row : Row version k r line
+
+-- So it is, or no line there is row k.
+abbrev pub RowAt : List ℕ → ℕ → ℕ → ℕ → Record → Option ℕ → Type 0
+RowAt text at version k r (Some next) = RowHere text at version k r next
+RowAt text at version k r None = NoRow text at version k
 
 -- Where no row stands from line 3 on: what is left is refused with this number.
 pub data Bars (rest : List ℕ) : ℕ → Type 0 where
@@ -60,9 +63,9 @@ pub data Bars (rest : List ℕ) : ℕ → Type 0 where
   other : {line after : List ℕ} → Line line after rest → (Comment line → ⊥) → (DollarLine line → ⊥) → Bars rest 7
 
 -- What the line at `at` is, if it is no row: a comment, or a refusal.
-abbrev pub Says : List ℕ → ℕ → Other → Type 0
-Says text at (an.Note next) = (line : List ℕ) × There text at next line × Comment line
-Says text at (an.Bad n) = Bars (drop at text) n
+abbrev pub Says : List ℕ → ℕ → Result ℕ Refusal → Type 0
+Says text at (Ok next) = (line : List ℕ) × There text at next line × Comment line
+Says text at (Err reason) = Bars (drop at text) (number_of reason)
 
 -- The first line ends at `at`, and gives this version.
 pub record Versioned (text : List ℕ) (at version : ℕ) : Type 0 where
@@ -76,15 +79,15 @@ pub record Headed (text : List ℕ) (at version start : ℕ) : Type 0 where
   pub lines : EndedLines (head_lines version) (take at text)
   pub spelled : Spells (trace_of version start 0 []) (take at text)
 
-abbrev pub Heads : List ℕ → Heading → Type 0
-Heads text (heading.Body v s at) = Headed text at v s
-Heads text (heading.Bad n p) = RefusedAtLine text n p
+abbrev pub Heads : List ℕ → Result Heading Refused → Type 0
+Heads text (Ok h) = Headed text h.at h.version h.start
+Heads text (Err e) = RefusedAtLine text (number_of e.reason) e.place
 
 -- The first number and the records of the whole text, or its refusal.
-abbrev pub Judges : List ℕ → ℕ → ℕ → Judged → Type 0
-Judges text version start (judged.Good rows first) =
-    (rs : List Record) × Spells (trace_of version start first rs) text × (rows ≡ length rs)
-Judges text version start (judged.Bad n p) = RefusedAtLine text n p
+abbrev pub Judges : List ℕ → ℕ → ℕ → Result Judged Refused → Type 0
+Judges text version start (Ok j) =
+    (rs : List Record) × Spells (trace_of version start j.first rs) text × (j.rows ≡ length rs)
+Judges text version start (Err e) = RefusedAtLine text (number_of e.reason) e.place
 
 -- Some trace is spelled, its head lines end at `at`, and the output has room for its records.
 pub record RecordsFit (text out : List ℕ) (at version first : ℕ) : Type 0 where

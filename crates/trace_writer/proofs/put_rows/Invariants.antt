@@ -1,14 +1,7 @@
--- `trace_writer::put_rows` keeps: the rows of the records up to `at` are put; `tens` starts with the digits of the next row number over ten, and
--- `seconds` with those of the second `last`.
-use Prim.Native.Nat.{◌-◌, ◌/◌}
-use lib.ListN.{length}
-use Rattle.digits.specs.inner.Kept.{Kept}
+-- `trace_writer::put_rows` keeps: the rows of the records up to the place are put.
+use Prim.Native.Nat.{◌+◌, ◌*◌}
 use Rattle.trace_writer.proofs.Putting.{Putting}
 use Rattle.trace_writer.proofs.put_rows.Given as goal
 
-abbrev pub invariant-loop-at : goal.invariant-loop-at
-invariant-loop-at l =
-    Putting l.version l.first l.records l.initial.out l.out l.from l.at l.k l.p × Kept (l.k / 10) l.tens l.t × Kept l.last l.seconds l.u
-
-abbrev pub decreases-loop-at : goal.decreases-loop-at
-decreases-loop-at l = length l.records - l.at
+abbrev pub invariant-loop-i : goal.invariant-loop-i
+invariant-loop-i l = Putting l.version l.first l.records l.initial.out l.out l.from (20 * l.i) (l.first + l.i) l.p

@@ -1,15 +1,16 @@
 -- What the passes of the writer promise each other. No public promise cites this file.
-use Rattle.std.specs.Prelude.{ℕ, ◌+◌, ◌≤◌, ◌≡◌, ◌≢◌, List, [], ◌∷◌, ◌++◌, length}
+use Rattle.std.specs.Prelude.{Option, Some, None, Result, Ok, Err, ℕ, ◌+◌, ◌≤◌, ◌≡◌, List, [], ◌∷◌, ◌++◌, length}
 use Rattle.base.specs.Text.{cr, lf}
 use Rattle.base.specs.inner.Wrote.{Wrote}
 use Rattle.record.specs.declared.Record.{Record}
 use Rattle.records.specs.Records.{PacksAll, FirstMalformed}
 use Rattle.row.specs.Versions.{Carries}
 use Rattle.row.specs.House.{row_text}
+use Rattle.row.specs.inner.Sizes.{longest_ended}
 use Rattle.trace.specs.Trace.{FirstNumber}
 use Rattle.trace.specs.House.{version_line_text, start_line_text, rows_text, Carried}
-use Rattle.trace_writer.specs.declared.Size.{Size}
-use Rattle.trace_writer.specs.declared.Size.TheVariants as size
+use Rattle.base.specs.declared.refusal.Refused.{Refused}
+use Rattle.base.specs.Refusal.{number_of}
 use Rattle.trace_writer.specs.Promise.{FirstMisfit}
 
 -- A line with its end.
@@ -20,16 +21,10 @@ with_end line = line ++ (cr ∷ lf ∷ [])
 abbrev pub head_text : ℕ → ℕ → List ℕ
 head_text version start = with_end (version_line_text version) ++ with_end (start_line_text start)
 
--- How many bytes row k with its end is, or 0 if the version can't carry it.
-pub data RowBytes (version k : ℕ) (r : Record) (n : ℕ) : Type 0 where
-  carried : Carries r version → n ≡ length (with_end (row_text version k r)) → RowBytes version k r n
-  misfit : (Carries r version → ⊥) → n ≡ 0 → RowBytes version k r n
-
--- The first misfit after row k, which is n bytes: the old one if there was one.
-pub record MisfitAfter (old k n new : ℕ) : Type 0 where
-  pub kept : old ≢ 0 → new ≡ old
-  pub found : old ≡ 0 → n ≡ 0 → new ≡ k
-  pub none : old ≡ 0 → n ≢ 0 → new ≡ 0
+-- How many bytes row k with its end is, or that the version can't carry it.
+abbrev pub RowBytes : ℕ → ℕ → Record → Option ℕ → Type 0
+RowBytes version k r (Some n) = Carries r version × (n ≡ length (with_end (row_text version k r))) × (n ≤ longest_ended)
+RowBytes version k r None = Carries r version → ⊥
 
 -- The first record that can't be written, with its number.
 pub data Unfit (version : ℕ) (s : List ℕ) : ℕ → ℕ → Type 0 where
@@ -37,9 +32,9 @@ pub data Unfit (version : ℕ) (s : List ℕ) : ℕ → ℕ → Type 0 where
   misfit : {rs : List Record} {place : ℕ} → PacksAll rs s → FirstMisfit version rs place → Unfit version s 24 place
 
 -- How many bytes the rows from number `first` on are, or the first record that can't be written.
-abbrev pub MeasuresRows : ℕ → ℕ → List ℕ → Size → Type 0
-MeasuresRows version first s (size.Bytes n) = (rs : List Record) × PacksAll rs s × Carried version rs × (n ≡ length (rows_text version first rs))
-MeasuresRows version first s (size.Bad n p) = Unfit version s n p
+abbrev pub MeasuresRows : ℕ → ℕ → List ℕ → Result ℕ Refused → Type 0
+MeasuresRows version first s (Ok n) = (rs : List Record) × PacksAll rs s × Carried version rs × (n ≡ length (rows_text version first rs))
+MeasuresRows version first s (Err e) = Unfit version s (number_of e.reason) e.place
 
 -- The records can be written behind `at`, the first as the row with this number.
 pub record RowsFit (version first : ℕ) (s out : List ℕ) (at : ℕ) : Type 0 where

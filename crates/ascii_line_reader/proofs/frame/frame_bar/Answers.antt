@@ -1,24 +1,22 @@
 -- `ascii_line_reader::frame::frame_bar` reads the bar, and goes on behind it.
 use native.Mathlib.Omega.{arith}
-use Rattle.base.proofs.Tests.{shown}
-use Rattle.row_reader.proofs.Chain.{gap_starts_at}
 use Rattle.ascii_line_reader.proofs.Walk.{part_lined}
 use Rattle.ascii_line_reader.proofs.Parts.{solid_word}
 use Rattle.ascii_line_reader.proofs.Chain.{over, stop, link}
 use Rattle.ascii_line_reader.proofs.Stages.{bar_stage}
 use Rattle.ascii_line_reader.proofs.frame.frame_bar.Goals as goal
 
-pub returns-then-at_end : goal.returns-then-at_end
-returns-then-at_end c = over (bar_stage _ _) c.skip_in-a.ensures.skipped (shown c.at_end.result c.if-at_end.true c.at_end.ensures) c.no_frame.ensures
+pub returns-in_default : goal.returns-in_default
+returns-in_default c = over (bar_stage _ _) c.in_default.ensures
 
-pub keyword-s-requires : goal.keyword-s-requires
-keyword-s-requires c = (gap_starts_at c.skip_in-a.ensures.skipped c.at_end.ensures c.if-at_end.false, solid_word _ tt, omega arith)
+pub keyword-requires : goal.keyword-requires
+keyword-requires c = (c.in-Field.ensures.starts, solid_word _ tt, omega arith)
 
-pub returns-then-s-eq0 : goal.returns-then-s-eq0
-returns-then-s-eq0 c = stop (bar_stage _ _) c.skip_in-a.ensures.skipped (gap_starts_at c.skip_in-a.ensures.skipped c.at_end.ensures c.if-at_end.false) c.keyword-s.ensures c.if-s-eq0.true c.no_frame-then-s-eq0.ensures
+pub returns-in_err-s : goal.returns-in_err-s
+returns-in_err-s c = rw c.from_residual.ensures (stop (bar_stage _ _) c.in-Field.ensures c.in_err-s.ensures)
 
 pub frame_extended-requires : goal.frame_extended-requires
-frame_extended-requires c = (part_lined (gap_starts_at c.skip_in-a.ensures.skipped c.at_end.ensures c.if-at_end.false) c.keyword-s.ensures c.if-s-eq0.false, c.requires.1, c.requires.2)
+frame_extended-requires c = (part_lined c.in-Field.ensures.starts c.in_ok-s.ensures, c.requires.1)
 
 pub returns : goal.returns
-returns c = link (bar_stage _ _) c.skip_in-a.ensures.skipped (gap_starts_at c.skip_in-a.ensures.skipped c.at_end.ensures c.if-at_end.false) c.keyword-s.ensures c.if-s-eq0.false c.frame_extended.ensures
+returns c = link (bar_stage _ _) c.in-Field.ensures c.in_ok-s.ensures c.frame_extended.result c.frame_extended.ensures

@@ -1,20 +1,17 @@
 -- `ascii_line_reader::frame::frame_type` reads the type, and goes on behind it.
-use Rattle.base.proofs.Tests.{shown}
-use Rattle.row.proofs.Moves.{got}
-use Rattle.row_reader.proofs.Chain.{gap_starts_at}
 use Rattle.ascii_line_reader.proofs.Walk.{part_lined}
 use Rattle.ascii_line_reader.proofs.Chain.{over, stop, link}
 use Rattle.ascii_line_reader.proofs.Stages.{type_stage}
 use Rattle.ascii_line_reader.proofs.frame.frame_type.Goals as goal
 
-pub returns-then-at_end : goal.returns-then-at_end
-returns-then-at_end c = over type_stage c.skip_in-a.ensures.skipped (shown c.at_end.result c.if-at_end.true c.at_end.ensures) c.no_frame.ensures
+pub returns-in_default : goal.returns-in_default
+returns-in_default c = over type_stage c.in_default.ensures
 
-pub returns-then-s-eq0 : goal.returns-then-s-eq0
-returns-then-s-eq0 c = stop type_stage c.skip_in-a.ensures.skipped (gap_starts_at c.skip_in-a.ensures.skipped c.at_end.ensures c.if-at_end.false) c.type_part-s.ensures c.if-s-eq0.true c.no_frame-then-s-eq0.ensures
+pub returns-in_err-s : goal.returns-in_err-s
+returns-in_err-s c = rw c.from_residual.ensures (stop type_stage c.in-Field.ensures c.in_err-s.ensures)
 
 pub frame_channel-requires : goal.frame_channel-requires
-frame_channel-requires c = (part_lined (gap_starts_at c.skip_in-a.ensures.skipped c.at_end.ensures c.if-at_end.false) c.type_part-s.ensures c.if-s-eq0.false, c.requires.1, (got c.type_part-s.ensures c.if-s-eq0.false).has.few)
+frame_channel-requires c = (part_lined c.in-Field.ensures.starts c.in_ok-s.ensures, c.in_ok-s.ensures.has.few)
 
 pub returns : goal.returns
-returns c = link type_stage c.skip_in-a.ensures.skipped (gap_starts_at c.skip_in-a.ensures.skipped c.at_end.ensures c.if-at_end.false) c.type_part-s.ensures c.if-s-eq0.false c.frame_channel.ensures
+returns c = link type_stage c.in-Field.ensures c.in_ok-s.ensures c.frame_channel.result c.frame_channel.ensures

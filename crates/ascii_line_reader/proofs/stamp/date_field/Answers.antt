@@ -1,41 +1,29 @@
 -- `ascii_line_reader::stamp::date_field` refuses no date: each test holds of any.
-use native.Mathlib.Omega.{arith}
 use Rattle.base.proofs.Tests.{shown, refuted}
-use Rattle.clock.proofs.Dates.{small_day, last_year}
-use Rattle.fields.specs.inner.Window.{not}
-use Rattle.ascii_line_reader.proofs.Stamps.{day_is, month_is, year_is, date_ends, date_counted, date_accept}
+use Rattle.ascii_line_reader.proofs.Stamps.{no_day, no_month, no_year, date_ends, date_counted, date_accept}
 use Rattle.ascii_line_reader.proofs.stamp.date_field.Goals as goal
 
-pub returns-then-day-gt31 : goal.returns-then-day-gt31
-returns-then-day-gt31 c =
-    not c.none.ensures (λ f rest a v p.
-    let e = day_is a p c.two_then-day.ensures.0 in
-    omega (arith, small_day p.is))
+pub returns-in_err-day : goal.returns-in_err-day
+returns-in_err-day c = rw c.from_residual.ensures (λ f rest a v p. no_day c.args.w.now c.args.at a p c.in_err-day.ensures)
 
-pub returns-then-month-gt12 : goal.returns-then-month-gt12
-returns-then-month-gt12 c =
-    not c.none-then-month-gt12.ensures (λ f rest a v p.
-    let e = month_is a p c.two_then-day.ensures.0 c.two_then-month.ensures.0 in
-    omega (arith, p.is.calendar.last_month))
+pub returns-in_err-month : goal.returns-in_err-month
+returns-in_err-month c = rw c.from_residual-in_err-month.ensures (λ f rest a v p. no_month a p c.in_ok-day.ensures c.in_err-month.ensures)
 
-pub returns-then-year-gt9999 : goal.returns-then-year-gt9999
-returns-then-year-gt9999 c =
-    not c.none-then-year-gt9999.ensures (λ f rest a v p.
-    let e = year_is a p c.two_then-day.ensures.0 c.two_then-month.ensures.0 c.four-year.ensures.0 in
-    omega (arith, last_year p.last p.is))
+pub returns-in_err-year : goal.returns-in_err-year
+returns-in_err-year c =
+    rw c.from_residual-in_err-year.ensures (λ f rest a v p. no_year a p c.in_ok-day.ensures c.in_ok-month.ensures c.in_err-year.ensures)
 
 pub returns-then-not-ends : goal.returns-then-not-ends
 returns-then-not-ends c =
-    not c.none-then-not-ends.ensures (λ f rest a v p.
-    refuted c.ends.result c.if-not-ends.true c.ends.ensures
-    (date_ends a p c.two_then-day.ensures.0 c.two_then-month.ensures.0 c.four-year.ensures.0))
+    λ f rest a v p. refuted c.ends.result c.if-not-ends.true c.ends.ensures
+    (date_ends a p c.in_ok-day.ensures c.in_ok-month.ensures c.in_ok-year.ensures)
 
-pub returns-then-days-gt-LAST_DAY : goal.returns-then-days-gt-LAST_DAY
-returns-then-days-gt-LAST_DAY c =
-    not c.none-then-days-gt-LAST_DAY.ensures (λ f rest a v p.
-    date_counted a p c.two_then-day.ensures.0 c.two_then-month.ensures.0 c.four-year.ensures.0 c.day_of-days.ensures c.if-days-gt-LAST_DAY.true)
+pub returns-in_err-day_of : goal.returns-in_err-day_of
+returns-in_err-day_of c =
+    rw c.from_residual-in_err-day_of.ensures
+    (λ f rest a v p. date_counted a p c.in_ok-day.ensures c.in_ok-month.ensures c.in_ok-year.ensures c.in_err-day_of.ensures)
 
 pub returns : goal.returns
 returns c =
-    date_accept c.two_then-day.ensures.0 c.two_then-month.ensures.0 c.four-year.ensures.0 c.if-day-gt31.false c.if-month-gt12.false c.if-year-gt9999.false
-    (shown c.ends.result c.if-not-ends.false c.ends.ensures) c.day_of-days.ensures c.if-days-gt-LAST_DAY.false
+    date_accept c.in_ok-day.ensures c.in_ok-month.ensures c.in_ok-year.ensures (shown c.ends.result c.if-not-ends.false c.ends.ensures)
+    c.in_ok-day_of.ensures

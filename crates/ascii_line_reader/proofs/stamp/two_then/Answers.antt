@@ -1,11 +1,13 @@
 -- `ascii_line_reader::stamp::two_then` reads two digits, and the byte behind them.
-use mathlib.Core.Path.{refl}
-use native.Mathlib.Omega.{arith}
-use Rattle.ascii_line_reader.proofs.Digits.{then_byte, too_large}
+use mathlib.Core.List.{[], ◌∷◌}
+use Rattle.ascii_line_reader.proofs.Digits.{then_none, then_byte, other_byte}
 use Rattle.ascii_line_reader.proofs.stamp.two_then.Goals as goal
 
-pub returns-then-n-gt99 : goal.returns-then-n-gt99
-returns-then-n-gt99 c = (too_large c.two-n.ensures.0 (omega arith) refl, omega arith)
+pub returns-in_err-n : goal.returns-in_err-n
+returns-in_err-n c = rw c.from_residual.ensures (then_none 2 (c.args.b ∷ []) c.args.w.now c.args.at c.in_err-n.ensures)
+
+pub returns-then-bytes-at : goal.returns-then-bytes-at
+returns-then-bytes-at c = other_byte c.in_ok-n.ensures c.if-bytes-at.true
 
 pub returns : goal.returns
-returns c = (then_byte c.two-n.ensures.0 (omega arith) c.requires.1 c.if-bytes-at.false, omega arith)
+returns c = then_byte c.in_ok-n.ensures c.requires.1 c.if-bytes-at.false

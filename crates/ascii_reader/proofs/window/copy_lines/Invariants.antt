@@ -1,5 +1,5 @@
 -- `ascii_reader::window::copy_lines` keeps: the bytes passed stand at the front, CR for LF.
-use Prim.Native.Nat.{◌+◌, ◌-◌, ◌≤◌}
+use Prim.Native.Nat.{◌+◌, ◌≤◌}
 use lib.ListN.{length, take, drop}
 use Rattle.row_reader.proofs.Whole.{Filled}
 use Rattle.ascii_reader.specs.inner.Ends.{cr_for_all}
@@ -7,6 +7,3 @@ use Rattle.ascii_reader.proofs.window.copy_lines.Given as goal
 
 abbrev pub invariant-loop-i : goal.invariant-loop-i
 invariant-loop-i l = Filled (take l.n (drop l.from (cr_for_all l.text))) l.initial.slots l.slots l.n l.i × (l.from + l.n ≤ length l.text)
-
-abbrev pub decreases-loop-i : goal.decreases-loop-i
-decreases-loop-i l = l.n - l.i

@@ -3,8 +3,8 @@ use mathlib.Core.Path.{refl}
 use Rattle.row_reader.proofs.Chain.{gap_on, gap_early}
 use Rattle.row_reader.proofs.error.gap_error_id.Goals as goal
 
-pub returns-then-at_end : goal.returns-then-at_end
-returns-then-at_end c = gap_early c.skip_in-a.ensures.skipped c.at_end.ensures c.if-at_end.true refl c.requires.1
+pub returns-in_default : goal.returns-in_default
+returns-in_default c = gap_early c.in_default.ensures refl c.requires.1
 
 pub returns : goal.returns
-returns c = gap_on c.skip_in-a.ensures.skipped c.field_error_id.ensures
+returns c = gap_on c.in-Field.ensures.skipped c.field_error_id.ensures

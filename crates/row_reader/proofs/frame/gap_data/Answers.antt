@@ -3,8 +3,8 @@ use mathlib.Core.Path.{refl}
 use Rattle.row_reader.proofs.Chain.{gap_on, gap_last}
 use Rattle.row_reader.proofs.frame.gap_data.Goals as goal
 
-pub returns-then-at_end : goal.returns-then-at_end
-returns-then-at_end c = gap_last c.skip_in-a.ensures.skipped c.at_end.ensures c.if-at_end.true refl c.requires.1 c.finish.ensures
+pub returns-in-Field : goal.returns-in-Field
+returns-in-Field c = gap_on c.in-Field.ensures.skipped c.field_data.ensures
 
-pub returns : goal.returns
-returns c = gap_on c.skip_in-a.ensures.skipped c.field_data.ensures
+pub returns-in-End : goal.returns-in-End
+returns-in-End c = gap_last c.in-End.ensures refl c.requires.1 c.finish.ensures

@@ -2,8 +2,8 @@
 use Rattle.row_reader.proofs.Chain.{gap_on, gap_empty}
 use Rattle.row_reader.proofs.head.gap_number.Goals as goal
 
-pub returns-then-at_end : goal.returns-then-at_end
-returns-then-at_end c = gap_empty c.skip_in-a.ensures.skipped c.at_end.ensures c.if-at_end.true
+pub returns-in_default : goal.returns-in_default
+returns-in_default c = gap_empty c.in_default.ensures
 
 pub returns : goal.returns
-returns c = gap_on c.skip_in-a.ensures.skipped c.field_number.ensures
+returns c = gap_on c.in-Field.ensures.skipped c.field_number.ensures

@@ -1,18 +1,17 @@
 -- `stages::error::error_length` takes the length of an error frame off.
 use mathlib.Core.Path.{refl}
 use native.Mathlib.Omega.{arith}
-use Rattle.row.proofs.Moves.{got, refused}
+use Rattle.row.proofs.Moves.{refused}
 use Rattle.row.proofs.Warnings.{after_error_length, error_length_barred, error_length_went}
 use Rattle.stages.proofs.error.error_length.Goals as goal
 
-pub returns-then-e-eq0 : goal.returns-then-e-eq0
-returns-then-e-eq0 c = refused _ c.length_field-s.ensures c.if-e-eq0.true c.wrong.ensures (λ f fs r h. (4, (after_error_length h.2).1))
+pub returns-in_default : goal.returns-in_default
+returns-in_default c = refused _ c.in_default.ensures c.wrong.ensures (λ f fs r h. (4, (after_error_length h.2).1))
 
 pub returns-then-s-ne4 : goal.returns-then-s-ne4
 returns-then-s-ne4 c =
-    error_length_barred c.args.p _ c.wrong-then-s-ne4.ensures (λ z. omega arith) (got c.length_field-s.ensures c.if-e-eq0.false)
+    error_length_barred c.args.p _ c.wrong-then-s-ne4.ensures (λ z. omega arith) c.in-Some.ensures
 
 pub returns : goal.returns
 returns c =
-    let g = got c.length_field-s.ensures c.if-e-eq0.false in
-    rw c.known.ensures (error_length_went c.args.p _ refl refl refl c.requires.1 (omega arith) g)
+    rw c.known.ensures (error_length_went c.args.p _ refl refl refl c.requires.1 (omega arith) c.in-Some.ensures)

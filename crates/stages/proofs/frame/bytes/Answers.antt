@@ -5,8 +5,5 @@ use Rattle.stages.proofs.frame.bytes.Goals as goal
 pub returns-then-left-eq0 : goal.returns-then-left-eq0
 returns-then-left-eq0 c = bytes_barred c.args.p _ c.if-left-eq0.true c.wrong.ensures
 
-pub byte-requires : goal.byte-requires
-byte-requires c = (c.requires.0, c.if-left-eq0.false, c.requires.1, c.requires.2)
-
 pub returns : goal.returns
 returns c = bytes_went c.args.p _ c.if-left-eq0.false c.requires.1 c.byte.ensures

@@ -1,24 +1,24 @@
 -- `stages::head::offset` takes the offset off; the bus is next, or 0 where the version has none.
 use mathlib.Core.Path.{refl, sym, ◌∙◌}
-use Rattle.row.proofs.Moves.{got, refused}
+use Rattle.row.proofs.Moves.{refused}
 use Rattle.row.proofs.Columns.{after_offset, offset_went, offset_bus_went}
 use Rattle.row.proofs.EachVersion.{digits_known}
 use Rattle.stages.proofs.head.offset.Goals as goal
 
-pub offset_field-s-requires : goal.offset_field-s-requires
-offset_field-s-requires c = (c.requires.0, rw c.fraction_digits.ensures (digits_known c.args.version))
+pub offset_field-requires : goal.offset_field-requires
+offset_field-requires c = (c.requires.0, rw c.fraction_digits.ensures (digits_known c.args.version))
 
-pub returns-then-e-eq0 : goal.returns-then-e-eq0
-returns-then-e-eq0 c =
-    let f = rw c.fraction_digits.ensures at c.offset_field-s.ensures in
-    refused _ f c.if-e-eq0.true c.wrong.ensures (λ f fs r h. (r.offset, (after_offset h).0))
+pub returns-in_default : goal.returns-in_default
+returns-in_default c =
+    let f = rw c.fraction_digits.ensures at c.in_default.ensures in
+    refused _ f c.wrong.ensures (λ f fs r h. (r.offset, (after_offset h).0))
 
 pub returns-then-has_bus : goal.returns-then-has_bus
 returns-then-has_bus c =
-    let g = got (rw c.fraction_digits.ensures at c.offset_field-s.ensures) c.if-e-eq0.false in
+    let g = rw c.fraction_digits.ensures at c.in-Some.ensures in
     rw c.known.ensures (offset_bus_went c.args.p c.requires.1.0 g (sym c.has_bus.ensures ∙ c.if-has_bus.true) _ refl c.requires.1.1)
 
 pub returns : goal.returns
 returns c =
-    let g = got (rw c.fraction_digits.ensures at c.offset_field-s.ensures) c.if-e-eq0.false in
+    let g = rw c.fraction_digits.ensures at c.in-Some.ensures in
     rw c.known-2.ensures (offset_went c.args.p c.requires.1.0 g (sym c.has_bus.ensures ∙ c.if-has_bus.false) _ refl refl c.requires.1.1)

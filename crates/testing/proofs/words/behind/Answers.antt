@@ -8,5 +8,5 @@ use Rattle.testing.proofs.words.behind.Goals as goal
 pub returns-then-i-s : goal.returns-then-i-s
 returns-then-i-s c = to_end c.args.s.now (c.find-i.result + 1) ∙ (cut_from c.find-i.ensures).1
 
-pub returns : goal.returns
-returns c = to_end c.args.s.now c.find-i.result ∙ cut_end c.find-i.ensures (omega arith)
+pub returns-else-i-s : goal.returns-else-i-s
+returns-else-i-s c = to_end c.args.s.now c.find-i.result ∙ cut_end c.find-i.ensures (omega arith)

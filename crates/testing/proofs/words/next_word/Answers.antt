@@ -6,5 +6,5 @@ use Rattle.testing.proofs.words.next_word.Goals as goal
 pub returns-then-i-s : goal.returns-then-i-s
 returns-then-i-s c = (omega arith, (cut_from c.find-i.ensures).1)
 
-pub returns : goal.returns
-returns c = (omega (arith, c.find-i.ensures.within), cut_end c.find-i.ensures (omega arith))
+pub returns-else-i-s : goal.returns-else-i-s
+returns-else-i-s c = (omega (arith, c.find-i.ensures.within), cut_end c.find-i.ensures (omega arith))

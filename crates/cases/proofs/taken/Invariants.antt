@@ -1,9 +1,0 @@
--- `cases::taken` ends: the room that is left falls.
-use Rattle.std.proofs.Common.{◌≤◌, ◌-◌, length}
-use Rattle.cases.proofs.taken.Given as goal
-
-abbrev pub invariant-loop-done : goal.invariant-loop-done
-invariant-loop-done g l = l.done ≤ length l.space
-
-abbrev pub decreases-loop-done : goal.decreases-loop-done
-decreases-loop-done g l = length l.space - l.done

@@ -1,0 +1,60 @@
+// The two hexadecimal digits of each byte, from a table.
+ghost use Rattle.std.specs.Prelude.{◌≡◌, ◌∷◌, ◌+◌, ◌*◌, ◌^◌, ◌≤◌, ◌<◌, length};
+ghost use Rattle.base.specs.Spaced.{spaced};
+ghost use Rattle.base.specs.Text.{blank};
+ghost use Rattle.base.specs.inner.Wrote.{Wrote};
+ghost use Rattle.digits.specs.House.{hex_text, byte_texts};
+ghost use Rattle.digits.specs.inner.Pairs.{PairsOf};
+
+use crate::{Letters, glyph};
+use base::put_three;
+
+// For each byte its two digits in one letter case, one pair after the other.
+#[derive(Clone, Copy)]
+pub struct Pairs {
+    pub letters: Letters,
+    pub table: [u8; 512],
+    ghost pairs: { PairsOf letters table },
+}
+
+// Room for two digits of each byte.
+fn no_pairs() -> [u8; 512]
+    ensures { 512 ≡ length result }
+{
+    [0; 512]
+}
+
+impl Pairs {
+    pub fn new(letters: Letters) -> Self
+        ensures { result.letters ≡ letters }
+    {
+        let mut table = no_pairs();
+        for i in 0..256 {
+            table[2 * i] = glyph(letters, (i / 16) as u8);
+            table[2 * i + 1] = glyph(letters, (i % 16) as u8);
+        }
+        Pairs { letters, table }
+    }
+
+    // One byte after one blank: the calls of `put_hex` for each digit would double the time that a row takes.
+    fn put_pair(&self, out: &mut [u8], at: usize, b: u64) -> usize
+        requires { (b < 256) × (at + 3 ≤ length out.old) }
+        ensures wrote { Wrote out.old out.new at result (blank ∷ hex_text self.now.letters 2 b) }
+        ensures value { result ≡ at + 3 }
+    {
+        let i = 2 * b as usize;
+        put_three(out, at, b' ', self.table[i], self.table[i + 1])
+    }
+
+    // The first n of the eight bytes of a word, each after one blank.
+    pub fn put(&self, out: &mut [u8], at: usize, n: u64, word: u64) -> usize
+        requires { (n ≤ 8) × (at + 3 * n ≤ length out.old) }
+        ensures { Wrote out.old out.new at result (spaced (byte_texts self.now.letters (256 ^ 7) n word)) }
+    {
+        let mut p = at;
+        for j in 0..n {
+            p = self.put_pair(out, p, (word >> (56 - 8 * j)) % 256);
+        }
+        p
+    }
+}
