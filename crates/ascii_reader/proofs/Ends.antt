@@ -96,12 +96,7 @@ cr_for_other b n = rw (ne_eqb b 10 n)
 plain_byte : (b : ℕ) → cr_for b ≢ 13 → Inside b
 plain_byte b n = record { cr = λ e. n (cr_for_other b (λ f. omega arith) ∙ e); lf = λ e. n (cr_for_feed b e) }
 
--- It keeps the length, and each byte has its place.
-
-pub cr_all_length : (s : List ℕ) → length (cr_for_all s) ≡ length s
-unfolding cr_for_all
-cr_all_length [] = refl
-cr_all_length (b ∷ s) = ap suc (cr_all_length s)
+-- Each byte has its place.
 
 pub cr_all_drop : (i : ℕ) (s : List ℕ) → drop i (cr_for_all s) ≡ cr_for_all (drop i s)
 unfolding cr_for_all

@@ -20,9 +20,9 @@ use Rattle.trace.proofs.Rows.{View, view}
 use Rattle.ascii_line_reader.specs.declared.LineRead.{LineRead}
 use Rattle.ascii_line_reader.specs.inner.Answer.{LineHere, LineFound}
 use Rattle.ascii_reader.specs.Text.{EndedLine}
-use Rattle.ascii_reader.specs.inner.Ends.{cr_for, cr_for_all, EndHere, feed, return, NoEndHere}
+use Rattle.ascii_reader.specs.inner.Ends.{cr_for, cr_for_all, cr_all_length, EndHere, feed, return, NoEndHere}
 use Rattle.ascii_reader.specs.inner.Passes.{LineThere, LineAt}
-use Rattle.ascii_reader.proofs.Ends.{closed, cr_all_length, cr_all_drop, cr_all_at, cr_all_line, plain_front}
+use Rattle.ascii_reader.proofs.Ends.{closed, cr_all_drop, cr_all_at, cr_all_line, plain_front}
 
 -- The byte that the window has for one of the text.
 pub held_byte : (text : List ℕ) (from n i : ℕ) → from + n ≤ length text → i < n

@@ -20,6 +20,8 @@ use record::{Record, put_record};
 use records::mark_after;
 use row_reader::no_window;
 use trace::SIZE_LIMIT;
+use trace::window::{fill_window, window_at};
+use window::CrForLf;
 
 // What a text of lines is, beside its records.
 #[derive(Clone, Copy, PartialEq, Eq)]
@@ -96,10 +98,10 @@ fn judge(text: &[u8], hex: &HexDigits) -> Result<AsciiRead, Refused>
     let mut start: u64 = 0;
     let mut w = no_window();
     let mut base = 0;
-    window::fill_window(text, 0, &mut w);
+    fill_window::<CrForLf>(text, 0, &mut w);
     // No `for`: the place moves on by what was read.
     while at < text.len() {
-        base = window::window_at(text, at, base, &mut w);
+        base = window_at::<CrForLf>(text, at, base, &mut w);
         let Some(line) = line_at(text, at, base, &w, hex) else {
             return Err(Refusal::NotAsciiLine.at(lines + 1));
         };
@@ -128,10 +130,10 @@ fn fill(text: &[u8], start: u64, hex: &HexDigits, out: &mut [u8])
     let mut last: u64 = 0;
     let mut w = no_window();
     let mut base = 0;
-    window::fill_window(text, 0, &mut w);
+    fill_window::<CrForLf>(text, 0, &mut w);
     // No `for`: the place moves on by what was read.
     while at < text.len() {
-        base = window::window_at(text, at, base, &mut w);
+        base = window_at::<CrForLf>(text, at, base, &mut w);
         let Some(line) = line_at(text, at, base, &w, hex) else {
             return;
         };

@@ -19,7 +19,6 @@ use Rattle.lines.proofs.Scans.{blanks_ran}
 use Rattle.row.specs.Row.{RowFields, Expected, this, any}
 use Rattle.row.specs.Versions.{Version}
 use Rattle.row.specs.declared.Part.{Part}
-use Rattle.row.specs.declared.Step.{Step}
 use Rattle.row.specs.inner.Sizes.{word_bytes}
 use Rattle.row.specs.inner.Stages.{Continues, Good, EndsRow, whole, early}
 use Rattle.row.proofs.Columns.{after_number}
@@ -31,7 +30,7 @@ use Rattle.explain.specs.declared.Explained.TheVariants as explained
 use Rattle.explain.specs.Explain.{ExpectedFields, row}
 use Rattle.explain.specs.Promise.{ExplainPromise, explain_refused, explain_numbers, unexplained}
 use Rattle.explain.specs.Promise.{wrong as promise-wrong, early as promise-early}
-use Rattle.explain.specs.inner.Steps.{Moves, moved, stuck, FieldsBefore, FoundIn}
+use Rattle.explain.specs.inner.Steps.{Moved, FieldsBefore, FoundIn}
 use Rattle.explain.proofs.Fields.{fields_next, found_wrong, found_early, found_row}
 use Rattle.explain.proofs.Theorems.{wrong_no_row, early_no_row, to_explain}
 
@@ -41,15 +40,6 @@ pub record Going (line : List ℕ) (from : ℕ) (first p : Part) (at i : ℕ) : 
   pub few : i ≤ at
   pub good : Good p
   pub fields : (v k : ℕ) → FieldsBefore v k line (Continues first) from 1 → FieldsBefore v k line (Continues p) at i
-
-pub moved_good : {C : List (List ℕ) → Record → Type 0} {f : List ℕ} {t : Step} → Moves C f t → t.at ≢ 0 → Good t.part
-moved_good (moved z g u v) n = g
-moved_good (stuck z u) n = absurd (n z)
-
-pub none_goes_on : {C : List (List ℕ) → Record → Type 0} {f : List ℕ} {t : Step} → Moves C f t → t.at ≡ 0
-    → (fs : List (List ℕ)) (r : Record) → C (f ∷ fs) r → ⊥
-none_goes_on (moved n g u v) z = absurd (n z)
-none_goes_on (stuck z u) _ = u
 
 -- The answers at the line's end and at a field.
 module _ {line : List ℕ} {from at a i : ℕ} {first p : Part} (x : Going line from first p at i) (g : Ran (Between 32 32) line at a) where
@@ -63,17 +53,13 @@ module _ {line : List ℕ} {from at a i : ℕ} {first p : Part} (x : Going line 
   end_early true e d n v k y = absurd (true≢false e)
   end_early false e (early u) n v k y = found_early (x.fields v k y) (blanks_ran g) n (can_end p x.good) u
 
-  module _ {e : ℕ} (n : a ≢ length line) (h : Ran NoBlank line a e) {t : Step} (m : Moves (Continues p) (slice a e line) t) where
-    pub at_wrong : t.at ≡ 0 → (v k : ℕ) → FieldsBefore v k line (Continues first) from 1 → FoundIn v k line (Ok (explained.Wrong (i + 1)))
-    at_wrong z v k y = found_wrong (blanks_ran g) n h (x.fields v k y) (can_end p x.good) (none_goes_on m z)
+  module _ {e : ℕ} (n : a ≢ length line) (h : Ran NoBlank line a e) where
+    pub at_wrong : ((fs : List (List ℕ)) (r : Record) → Continues p (slice a e line ∷ fs) r → ⊥)
+        → (v k : ℕ) → FieldsBefore v k line (Continues first) from 1 → FoundIn v k line (Ok (explained.Wrong (i + 1)))
+    at_wrong m v k y = found_wrong (blanks_ran g) n h (x.fields v k y) (can_end p x.good) m
 
-    pub one_more_field : t.at ≢ 0 → i + 1 ≤ e → Going line from first t.part e (i + 1)
-    one_more_field z l = record {
-      within = h.within;
-      few = l;
-      good = moved_good m z;
-      fields = λ v k y. fields_next (blanks_ran g) n h (x.fields v k y) m z;
-    }
+    pub one_more_field : {q : Part} → Moved (Continues p) (slice a e line) q → i + 1 ≤ e → Going line from first q e (i + 1)
+    one_more_field m l = record { within = h.within; few = l; good = m.good; fields = λ v k y. fields_next (blanks_ran g) n h (x.fields v k y) m }
 
 -- The whole answer.
 module _ {line : List ℕ} {v k : ℕ} (is : Version v) (i : All Inside line) (n : Comment line → ⊥) (h : k ≤ last_number) where

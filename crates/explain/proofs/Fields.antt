@@ -18,11 +18,11 @@ use Rattle.fields.proofs.Runs.{all_left, all_right}
 use Rattle.lines.specs.Lines.{Inside}
 use Rattle.lines.specs.inner.Parts.{IsBlank, Ran}
 use Rattle.lines.proofs.Scans.{split, part}
-use Rattle.row.specs.declared.Step.{Step}
+use Rattle.row.specs.declared.Part.{Part}
 use Rattle.row.specs.inner.Stages.{Continues}
 use Rattle.row.proofs.CanEnd.{CanEnd}
 use Rattle.explain.specs.Explain.{ExpectedFields, BeginsRow, WrongField, EndedEarly}
-use Rattle.explain.specs.inner.Steps.{Field, Moves, moved, stuck, FieldsBefore, FoundIn}
+use Rattle.explain.specs.inner.Steps.{Field, Moved, FieldsBefore, FoundIn}
 
 -- A gap, and the field after it.
 module _ {line : List ℕ} {at a e : ℕ} (g : Ran IsBlank line at a) (n : a ≢ length line) (h : Ran NoBlank line a e) where
@@ -80,14 +80,13 @@ module _ {line : List ℕ} {at a e : ℕ} (g : Ran IsBlank line at a) (n : a ≢
     counted : length (x.front ++ (f ∷ [])) ≡ i + 1
     counted = omega (arith, length-append x.front (f ∷ []), x.count)
 
-    pub fields_next : {t : Step} → Moves C f t → t.at ≢ 0 → FieldsBefore v k line (Continues t.part) e (i + 1)
-    fields_next (stuck z u) m = absurd (m z)
-    fields_next (moved z d onto back) m = record {
+    pub fields_next : {p : Part} → Moved C f p → FieldsBefore v k line (Continues p) e (i + 1)
+    fields_next m = record {
       front = x.front ++ (f ∷ []);
       count = counted;
       parted = λ fs p. rw (longer fs) (x.parted (f ∷ fs) (fields_here p));
-      onto = λ fs r c. onto fs r (x.onto (f ∷ fs) r (rw (longer fs) at c));
-      back = λ fs r c. rw (longer fs) (x.back (f ∷ fs) r (back fs r c));
+      onto = λ fs r c. m.onto fs r (x.onto (f ∷ fs) r (rw (longer fs) at c));
+      back = λ fs r c. rw (longer fs) (x.back (f ∷ fs) r (m.back fs r c));
     }
 
     pub found_wrong : CanEnd C → ((fs : List (List ℕ)) (r : Record) → C (f ∷ fs) r → ⊥) → WrongField v k line (i + 1)

@@ -61,7 +61,7 @@ fn field_end(line: &[u8], at: usize) -> usize
 }
 
 // What the first field makes of a row that is expected.
-fn first(f: &[u8], version: u64, number: u64, w: &mut [u8; WINDOW]) -> Step
+fn first(f: &[u8], version: u64, number: u64, w: &mut [u8; WINDOW]) -> Option<Step>
     requires { Field f.now × (length f.now < window_bytes) × Version version }
     ensures { Moves (λ fs r. ExpectedFields version number r fs) f.now result }
 {
@@ -71,7 +71,7 @@ fn first(f: &[u8], version: u64, number: u64, w: &mut [u8; WINDOW]) -> Step
 }
 
 // What a later field makes of a state. One that is too long for any other is a word, and its first bytes are one, too.
-fn step(f: &[u8], p: Part, w: &mut [u8; WINDOW], hex: &HexDigits) -> Step
+fn step(f: &[u8], p: Part, w: &mut [u8; WINDOW], hex: &HexDigits) -> Option<Step>
     requires { Field f.now × Good p }
     ensures { Moves (Continues p) f.now result }
 {
@@ -80,7 +80,7 @@ fn step(f: &[u8], p: Part, w: &mut [u8; WINDOW], hex: &HexDigits) -> Step
         return take_field(w, 0, hex, p);
     }
     if run_end(f, 0, b'A', b'Z') != f.len() {
-        return Step { at: 0, part: p };
+        return None;
     }
     window(&f[..WORD], w);
     take_field(w, 0, hex, p)
@@ -110,12 +110,10 @@ fn explain_fields(
             return Ok(Explained::Early(i));
         }
         let e = field_end(line, a);
-        let t = step(&line[a..e], p, w, hex);
-        if t.at == 0 {
+        let Some(t) = step(&line[a..e], p, w, hex) else {
             return Ok(Explained::Wrong(i + 1));
-        }
-        let part = t.part;
-        p = part;
+        };
+        p = t.part;
         at = e;
         i += 1;
     }
@@ -135,13 +133,11 @@ fn explain_row(line: &[u8], version: u64, number: u64) -> Result<Explained, Refu
         return Ok(Explained::Wrong(1));
     }
     let mut w = no_window();
-    let t = first(&line[a..e], version, number, &mut w);
-    if t.at == 0 {
+    let Some(t) = first(&line[a..e], version, number, &mut w) else {
         return Ok(Explained::Wrong(1));
-    }
-    let part = t.part;
+    };
     let hex = HexDigits::new();
-    explain_fields(line, e, part, &mut w, &hex)
+    explain_fields(line, e, t.part, &mut w, &hex)
 }
 
 // Explains a line that was to be the row with this number in this version, or with any number where that is 0.

@@ -20,10 +20,10 @@ use Rattle.row.specs.declared.Stage.TheVariants as stage
 use Rattle.row.specs.Versions.{Version, fraction_digits, has_bus}
 use Rattle.row.specs.Row
 use Rattle.row.specs.inner.Ids.{FormOf}
-use Rattle.row.specs.inner.Stages.{Steps, Continues, Good, known2, known4, continues_at}
+use Rattle.row.specs.inner.Stages.{Stepped, Stuck, Continues, Good, known2, known4, continues_at}
 use Rattle.row.proofs.Moves.{barred, went}
 
--- The state behind a field.
+-- The place after a field, and the state there.
 abbrev pub behind : ℕ → Stage → ℕ → ℕ → Record → Step
 behind at stage left place r = record { at = at; part = record { stage = stage; left = left; place = place; r = r } }
 
@@ -49,37 +49,38 @@ pub after_length : {sent : ℕ} {r : Record} {f : List ℕ} {fs : List (List ℕ
 after_length (Row.frame_length l d) = (l, d)
 
 -- The row number.
-module _ {w : List ℕ} {at k : ℕ} {s : Scan} {version : ℕ} (t : Step) (g : Taken NumberField w at s) where
+module _ {w : List ℕ} {at k : ℕ} {s : Scan} {version : ℕ} (g : Taken NumberField w at s) where
   -- no row k has another number
-  pub number_barred : t.at ≡ 0 → s.value ≢ k → Steps w at (λ fs r. Row.RowFields version k r fs) t
-  number_barred z n = barred t g z (λ f fs r h e c. n (number_one h (after_number c).0))
+  pub number_barred : s.value ≢ k → Stuck w at (λ fs r. Row.RowFields version k r fs)
+  number_barred n = barred g (λ f fs r h e c. n (number_one h (after_number c).0))
 
   -- and the columns from the offset on follow it
-  pub number_went : t.at ≡ s.end → s.value ≡ k → Good t.part → ((fs : List (List ℕ)) (r : Record) → Continues t.part fs r ≡ Row.FromOffset r version fs)
-      → Steps w at (λ fs r. Row.RowFields version k r fs) t
-  number_went z e d o = went t g z d (λ f fs r h _ c. rw o (after_number c).1) (λ f fs r h _ c. Row.number (rw e at h) (rw o at c))
+  pub number_went : (t : Step) → t.at ≡ s.end → s.value ≡ k → Good t.part
+      → ((fs : List (List ℕ)) (r : Record) → Continues t.part fs r ≡ Row.FromOffset r version fs)
+      → Stepped w at (λ fs r. Row.RowFields version k r fs) t
+  number_went t z e d o = went g t z d (λ f fs r h _ c. rw o (after_number c).1) (λ f fs r h _ c. Row.number (rw e at h) (rw o at c))
 
 module _ {w : List ℕ} {at : ℕ} (p : Part) {s : Scan} where
   module _ {v : ℕ} (is : Version v) (g : Taken (OffsetField (fraction_digits v)) w at s) where
     -- an offset with no bus behind it, and one with a bus
     pub offset_went : has_bus v ≡ false → (q : Record) → q.offset ≡ s.value → q.bus ≡ 0 → q.«data» ≡ 0
-        → Steps w at (continues_at (stage.Offset v) p) (behind s.end stage.TypeColumn 0 0 q)
+        → Stepped w at (continues_at (stage.Offset v) p) (behind s.end stage.TypeColumn 0 0 q)
     offset_went n q x y d =
-        went _ g refl d
+        went g _ refl d
         (λ f fs r o e c. let a = after_offset c in let h = offset_one a.0 o in let b = without_bus (rw n at a.1) in (cc (x, y, b.0), b.1))
         (λ f fs r o e c. let h : s.value ≡ r.offset = cc (x, c.0) in let b : r.bus ≡ 0 = cc (y, c.0) in Row.offset is (rw h at o) (rw n (Row.no_bus b c.1)))
 
     pub offset_bus_went : has_bus v ≡ true → (q : Record) → q.offset ≡ s.value → q.«data» ≡ 0
-        → Steps w at (continues_at (stage.Offset v) p) (behind s.end stage.Bus 0 0 q)
+        → Stepped w at (continues_at (stage.Offset v) p) (behind s.end stage.Bus 0 0 q)
     offset_bus_went n q x d =
-        went _ g refl d
+        went g _ refl d
         (λ f fs r o e c. let a = after_offset c in (offset_one a.0 o ∙ sym x, rw n at a.1))
         (λ f fs r o e c. let h : s.value ≡ r.offset = sym x ∙ sym c.0 in Row.offset is (rw h at o) (rw n c.1))
 
   pub bus_went : (q : Record) → q.offset ≡ p.r.offset → q.bus ≡ s.value → q.«data» ≡ 0 → Taken BusField w at s
-      → Steps w at (continues_at stage.Bus p) (behind s.end stage.TypeColumn 0 0 q)
+      → Stepped w at (continues_at stage.Bus p) (behind s.end stage.TypeColumn 0 0 q)
   bus_went q x y d g =
-      went _ g refl d
+      went g _ refl d
       (λ f fs r b e c. let a = after_bus c.1 in let h = bus_one a.0 b in (cc (x, y, c.0), a.1))
       (λ f fs r b e c. let h : s.value ≡ r.bus = cc (y, c.0) in let o : r.offset ≡ p.r.offset = cc (x, c.0) in (o, Row.bus (rw h at b) c.1))
 
@@ -141,21 +142,21 @@ of_error l (type-err e) h = failed h
 
 module _ {w : List ℕ} {at : ℕ} (p : Part) {s : Scan} (g : Taken TypeField w at s) where
   pub type_frame : (q : Record) → s.value ≤ 1 → known2 q ≡ known2 p.r → q.kind ≡ s.value → q.«data» ≡ 0
-      → Steps w at (continues_at stage.TypeColumn p) (behind s.end stage.Id 0 0 q)
+      → Stepped w at (continues_at stage.TypeColumn p) (behind s.end stage.Id 0 0 q)
   type_frame q l x k d =
-      went _ g refl (omega arith, d)
+      went g _ refl (omega arith, d)
       (λ f fs r m e c. (c.0 ∙ sym x, rw (← k) at (frame_of l (after_type m c.1))))
       (λ f fs r m e c. (c.0 ∙ x, type_back m (of_frame s.value l (rw k at c.1))))
 
-  pub type_warning : s.value ≡ 2 → p.r.«data» ≡ 0 → Steps w at (continues_at stage.TypeColumn p) (behind s.end stage.WarningId 0 0 p.r)
+  pub type_warning : s.value ≡ 2 → p.r.«data» ≡ 0 → Stepped w at (continues_at stage.TypeColumn p) (behind s.end stage.WarningId 0 0 p.r)
   type_warning l d =
-      went _ g refl d
+      went g _ refl d
       (λ f fs r m e c. (c.0, warning_of l (after_type m c.1)))
       (λ f fs r m e c. (c.0, type_back m (rw (← l) at (warned c.1))))
 
-  pub type_error : 2 < s.value → p.r.«data» ≡ 0 → Steps w at (continues_at stage.TypeColumn p) (behind s.end stage.ErrorId 0 0 p.r)
+  pub type_error : 2 < s.value → p.r.«data» ≡ 0 → Stepped w at (continues_at stage.TypeColumn p) (behind s.end stage.ErrorId 0 0 p.r)
   type_error l d =
-      went _ g refl d
+      went g _ refl d
       (λ f fs r m e c. (c.0, error_of l (after_type m c.1)))
       (λ f fs r m e c. (c.0, type_back m (of_error l m c.1)))
 
@@ -177,14 +178,14 @@ some_id {i = i} (long e k l) = let n = k.width in (i, record { spelled = rw (←
 
 module _ {w : List ℕ} {at : ℕ} (p : Part) {s : Scan} (g : Taken HexField w at s) where
   -- no ID has this width and value
-  pub id_barred : (t : Step) → t.at ≡ 0 → ((x : ℕ) → FormOf s.value (s.end - at) x → ⊥) → Steps w at (continues_at stage.Id p) t
-  id_barred t z n =
-      barred t g z (λ f fs r h e c. let y : length f ≡ s.end - at = omega arith in n r.extended (rw y at (form h (after_id c.1).0).1))
+  pub id_barred : ((x : ℕ) → FormOf s.value (s.end - at) x → ⊥) → Stuck w at (continues_at stage.Id p)
+  id_barred n =
+      barred g (λ f fs r h e c. let y : length f ≡ s.end - at = omega arith in n r.extended (rw y at (form h (after_id c.1).0).1))
 
   pub id_went : (q : Record) → p.r.kind ≤ 1 → known2 q ≡ known2 p.r → q.id ≡ s.value → q.kind ≡ p.r.kind → q.«data» ≡ 0
-      → FormOf s.value (s.end - at) q.extended → Steps w at (continues_at stage.Id p) (behind s.end stage.Length 0 0 q)
+      → FormOf s.value (s.end - at) q.extended → Stepped w at (continues_at stage.Id p) (behind s.end stage.Length 0 0 q)
   id_went q l x i k d o =
-      went _ g refl (rw k l, d)
+      went g _ refl (rw k l, d)
       (λ f fs r h e c. let a = after_id c.1 in let z = form h a.0 in
       let y : s.end - at ≡ length f = omega arith in
       let m : r.extended ≡ q.extended = same_form z.1 (rw y at o) in
@@ -202,8 +203,8 @@ module _ {w : List ℕ} {at : ℕ} (p : Part) {s : Scan} (g : Taken HexField w a
 
 module _ {w : List ℕ} {at : ℕ} (p : Part) {s : Scan} where
   pub length_went : (q : Record) → p.r.kind ≤ 1 → known4 q ≡ known4 p.r → q.len ≡ s.value → q.kind ≡ p.r.kind → q.«data» ≡ 0
-      → Taken LengthField w at s → Steps w at (continues_at stage.Length p) (behind s.end stage.Data s.value (256 ^ 7) q)
+      → Taken LengthField w at s → Stepped w at (continues_at stage.Length p) (behind s.end stage.Data s.value (256 ^ 7) q)
   length_went q l x n k d g =
-      went _ g refl (rw k l, d, sym n, refl)
+      went g _ refl (rw k l, d, sym n, refl)
       (λ f fs r h e c. let a = after_length c.1 in let z = length_one a.0 h in (cc (c.0, x, n, z), rw (← k) at a.1))
       (λ f fs r h e c. let z : s.value ≡ r.len = cc (c.0, n) in (cc (c.0, x), Row.frame_length (rw z at h) (rw k at c.1)))

@@ -1,5 +1,5 @@
 -- What each stage of the data knows: bytes, words, and where a row may end.
-use Rattle.std.specs.Prelude.{None}
+use Rattle.std.specs.Prelude.{Option, Some, None}
 use Prim.Native.Nat.{ℕ, suc, ◌+◌, ◌*◌, ◌-◌, ◌/◌, ◌^◌, ◌≤◌}
 use native.Mathlib.Nat.{mul-le-mul_right, add_assoc}
 use mathlib.Core.Path.{◌≡◌, refl, ap, sym, ◌∙◌, subst}
@@ -19,7 +19,7 @@ use Rattle.row.specs.declared.Step.{Step}
 use Rattle.row.specs.declared.Stage.{Stage}
 use Rattle.row.specs.declared.Stage.TheVariants as stage
 use Rattle.row.specs.Row
-use Rattle.row.specs.inner.Stages.{Steps, Byted, no_byte, one_byte, Gathers, plus, known5, continues_at, Continues, good_at, Good, moved, stuck}
+use Rattle.row.specs.inner.Stages.{Stepped, Stuck, Steps, OneByte, Byted, Gathers, plus, known5, continues_at, Continues, good_at, Good}
 use Rattle.row.proofs.Moves.{refused, went}
 use Rattle.row.proofs.Columns.{behind}
 
@@ -75,6 +75,11 @@ module _ (Then : List (List ℕ) → Type 0) (next : Stage) (p : Part) (n : p.le
       let l : v ≤ 255 = omega arith in
       omega (arith, mul-le-mul_right p.place l)
 
+-- The byte that was read is the next of p's.
+pub one_byte : {w : List ℕ} {at : ℕ} {s : Scan} {next : Stage} {p : Part} {t : Step} → Taken (Hex 2) w at s → t.at ≡ s.end
+    → t.part ≡ further next p s.value → OneByte w at next p t
+one_byte {s = s} g e q = record { field = g.field; value = s.value; there = rw (← e) at g.there; place = e ∙ g.place; has = g.has; part = q }
+
 -- A byte at its place is at most so much.
 pub byte_fits : (place : ℕ) {v : ℕ} {f : List ℕ} → Hex 2 v f → v * place ≤ 255 * place
 byte_fits place h = let b = hex_below h in mul-le-mul_right place (omega arith)
@@ -99,24 +104,33 @@ warnings = record {
   fine = λ q e g. subst (λ (x : Stage). good_at x q) (sym e) g;
 }
 
-module _ {w : List ℕ} {at : ℕ} (p : Part) (t : Step) where
-  gathered : {Then : List (List ℕ) → Type 0} {next : Stage} → Gathering Then next → p.left ≢ 0 → p.r.«data» + 256 * p.place ≤ 256 ^ 8
-      → Byted w at next p t → Steps w at (Gathers Then p) t
-  gathered y n g (no_byte z f) =
-      let l : p.left ≡ suc (p.left - 1) = omega arith in
-      stuck z (λ f' rest a fs r c. let x = after_byte (rw l at c.bytes) in f f' rest a x.0 x.2)
-  gathered {Then} {next} y n g (one_byte a e h q) =
-      let s : t.part.stage ≡ next = ap (λ (x : Part). x.stage) q in
-      moved a e (y.fine t.part s (rw q (byte_good Then next p n h g))) (λ fs r c. y.into t.part fs r s (rw q (byte_onto Then next p n h fs r c)))
-      (λ fs r c. byte_back Then next p n h fs r (rw q at (y.out t.part fs r s c)))
+pub bytes_barred : {w : List ℕ} {at : ℕ} (p : Part) → p.left ≡ 0 → Stuck w at (continues_at stage.Bytes p)
+bytes_barred p n = record { none = λ f rest a fs r c. no_field (no_more (rw n at c.bytes)).0 }
 
-  pub bytes_went : p.left ≢ 0 → good_at stage.Bytes p → Byted w at stage.Bytes p t → Steps w at (continues_at stage.Bytes p) t
+module _ (w : List ℕ) (at : ℕ) (p : Part) (t : Option Step) (n : p.left ≢ 0) where
+  gathered : {Then : List (List ℕ) → Type 0} {next : Stage} → Gathering Then next → p.r.«data» + 256 * p.place ≤ 256 ^ 8
+      → Byted w at next p t → Steps w at (Gathers Then p) t
+  gathered {Then} {next} y g b = go t b
+    where
+      go : (t : Option Step) → Byted w at next p t → Steps w at (Gathers Then p) t
+      go None f =
+          let l : p.left ≡ suc (p.left - 1) = omega arith in
+          record { none = λ h rest a fs r c. let x = after_byte (rw l at c.bytes) in f h rest a x.0 x.2 }
+      go (Some t) b =
+          let s : t.part.stage ≡ next = ap (λ (x : Part). x.stage) b.part in
+          record {
+            field = b.field;
+            there = b.there;
+            place = b.place;
+            good = y.fine t.part s (rw b.part (byte_good Then next p n b.has g));
+            onto = λ fs r c. y.into t.part fs r s (rw b.part (byte_onto Then next p n b.has fs r c));
+            back = λ fs r c. byte_back Then next p n b.has fs r (rw b.part at (y.out t.part fs r s c));
+          }
+
+  pub bytes_went : good_at stage.Bytes p → Byted w at stage.Bytes p t → Steps w at (continues_at stage.Bytes p) t
   bytes_went = gathered frames
 
-  pub bytes_barred : p.left ≡ 0 → t.at ≡ 0 → Steps w at (continues_at stage.Bytes p) t
-  bytes_barred n z = stuck z (λ f rest a fs r c. no_field (no_more (rw n at c.bytes)).0)
-
-  pub warning_bytes_went : p.left ≢ 0 → good_at stage.WarningBytes p → Byted w at stage.WarningBytes p t → Steps w at (continues_at stage.WarningBytes p) t
+  pub warning_bytes_went : good_at stage.WarningBytes p → Byted w at stage.WarningBytes p t → Steps w at (continues_at stage.WarningBytes p) t
   warning_bytes_went = gathered warnings
 
 -- Words behind the bytes of a warning.
@@ -125,13 +139,13 @@ after_word : {f : List ℕ} {fs : List (List ℕ)} → Row.Words (f ∷ fs) → 
 after_word (Row.word a h) = (a, h)
 
 module _ {w : List ℕ} {at : ℕ} (p : Part) (n : p.left ≡ 0) where
-  pub word_refused : (t : Step) → Takes (λ v f. All Capital f) w at None → t.at ≡ 0 → Steps w at (continues_at stage.WarningBytes p) t
-  word_refused t a e = refused t a e (λ f fs r c. (0, (after_word (no_more (rw n at c.bytes)).0).0))
+  pub word_refused : Takes (λ v f. All Capital f) w at None → Stuck w at (continues_at stage.WarningBytes p)
+  word_refused a = refused a (λ f fs r c. (0, (after_word (no_more (rw n at c.bytes)).0).0))
 
   pub word_went : {s : Scan} → good_at stage.WarningBytes p → Taken (λ v f. All Capital f) w at s
-      → Steps w at (continues_at stage.WarningBytes p) (behind s.end stage.WarningBytes 0 p.place p.r)
+      → Stepped w at (continues_at stage.WarningBytes p) (behind s.end stage.WarningBytes 0 p.place p.r)
   word_went d g =
-      went _ g refl d
+      went g _ refl d
       (λ f fs r a e c. let x = no_more (rw n at c.bytes) in
       record { known = c.known; sum = 0; bytes = Row.done (after_word x.0).1; total = c.total ∙ ap (λ (y : ℕ). p.r.«data» + y) x.1 })
       (λ f fs r a e c. let x = no_more c.bytes in
@@ -158,9 +172,9 @@ of_remote k d e Row.nothing = Row.remote k d e
 
 module _ {w : List ℕ} {at : ℕ} (p : Part) (g : good_at stage.Data p) where
   pub remote_went : {s : Scan} (q : Record) → q.kind ≡ p.r.kind + 2 → known5 q ≡ known5 p.r → q.«data» ≡ 0 → Taken (λ v f. f ≡ remote_text) w at s
-      → Steps w at (continues_at stage.Data p) (behind s.end stage.Bytes 0 0 q)
+      → Stepped w at (continues_at stage.Data p) (behind s.end stage.Bytes 0 0 q)
   remote_went q k x d a =
-      went _ a refl (omega arith)
+      went a _ refl (omega arith)
       (λ f fs r e _ c. let y = remote_of c.1 e in
       let z : r.kind ≡ q.kind = omega (arith, y.0) in
       record { known = cc (c.0, x, z); sum = 0; bytes = Row.done y.2; total = omega (arith, y.1) })
@@ -168,29 +182,37 @@ module _ {w : List ℕ} {at : ℕ} (p : Part) (g : good_at stage.Data p) where
       let z : r.kind ≡ q.kind = cc c.known in
       (cc (c.known, x), of_remote (omega arith) (omega (arith, c.total, y.1)) e y.0))
 
-  pub data_barred : (t : Step) → Takes (λ v f. f ≡ remote_text) w at None → p.left ≡ 0 → t.at ≡ 0
-      → Steps w at (continues_at stage.Data p) t
-  data_barred t a n e =
-      stuck e (λ f rest b fs r c. let y = bytes_of c.1 (a f rest b 0) in
-      let m : r.len ≡ 0 = cc (c.0, g.2, n) in
-      no_field (no_more (rw m at y.1)).0)
+  pub data_barred : Takes (λ v f. f ≡ remote_text) w at None → p.left ≡ 0 → Stuck w at (continues_at stage.Data p)
+  data_barred a n = record {
+    none = λ f rest b fs r c.
+        let y = bytes_of c.1 (a f rest b 0) in
+        let m : r.len ≡ 0 = cc (c.0, g.2, n) in
+        no_field (no_more (rw m at y.1)).0;
+  }
 
-  pub data_went : (t : Step) → Takes (λ v f. f ≡ remote_text) w at None → p.left ≢ 0 → Byted w at stage.Bytes p t
-      → Steps w at (continues_at stage.Data p) t
-  data_went t a n b = go (gathered p t frames n (rw (g.1, g.3) (omega arith)) b)
-    where
-      onto : (f : List ℕ) (fs : List (List ℕ)) (r : Record) → (f ≡ remote_text → ⊥) → continues_at stage.Data p (f ∷ fs) r → Gathers Row.Nothing p (f ∷ fs) r
-      onto f fs r o c =
-          let y = bytes_of c.1 o in
-          let m : r.len ≡ p.left = cc (c.0, g.2) in
-          record { known = cc (c.0, y.0); sum = r.«data»; bytes = rw g.3 (rw m at y.1); total = omega arith }
+pub data_went : (w : List ℕ) (at : ℕ) (p : Part) (t : Option Step) → p.left ≢ 0 → good_at stage.Data p → Takes (λ v f. f ≡ remote_text) w at None
+    → Byted w at stage.Bytes p t → Steps w at (continues_at stage.Data p) t
+data_went w at p t n g a b = go t (gathered w at p t n frames (rw (g.1, g.3) (omega arith)) b)
+  where
+    onto : (f : List ℕ) (fs : List (List ℕ)) (r : Record) → (f ≡ remote_text → ⊥) → continues_at stage.Data p (f ∷ fs) r → Gathers Row.Nothing p (f ∷ fs) r
+    onto f fs r o c =
+        let y = bytes_of c.1 o in
+        let m : r.len ≡ p.left = cc (c.0, g.2) in
+        record { known = cc (c.0, y.0); sum = r.«data»; bytes = rw g.3 (rw m at y.1); total = omega arith }
 
-      back : (f : List ℕ) (fs : List (List ℕ)) (r : Record) → Gathers Row.Nothing p (f ∷ fs) r → continues_at stage.Data p (f ∷ fs) r
-      back f fs r c =
-          let m : p.left ≡ r.len = cc (c.known, g.2) in
-          let d : c.sum ≡ r.«data» = omega (arith, c.total) in
-          (cc c.known, Row.data_bytes (cc c.known) (rw (g.3, m, d) at c.bytes))
+    back : (f : List ℕ) (fs : List (List ℕ)) (r : Record) → Gathers Row.Nothing p (f ∷ fs) r → continues_at stage.Data p (f ∷ fs) r
+    back f fs r c =
+        let m : p.left ≡ r.len = cc (c.known, g.2) in
+        let d : c.sum ≡ r.«data» = omega (arith, c.total) in
+        (cc c.known, Row.data_bytes (cc c.known) (rw (g.3, m, d) at c.bytes))
 
-      go : Steps w at (Gathers Row.Nothing p) t → Steps w at (continues_at stage.Data p) t
-      go (stuck e f) = stuck e (λ f' rest h fs r c. f f' rest h fs r (onto f' fs r (a f' rest h 0) c))
-      go (moved h e k on ba) = moved h e k (λ fs r c. on fs r (onto _ fs r (a _ _ h 0) c)) (λ fs r c. back _ fs r (ba fs r c))
+    go : (t : Option Step) → Steps w at (Gathers Row.Nothing p) t → Steps w at (continues_at stage.Data p) t
+    go None x = record { none = λ f rest h fs r c. x.none f rest h fs r (onto f fs r (a f rest h 0) c) }
+    go (Some t) x = record {
+      field = x.field;
+      there = x.there;
+      place = x.place;
+      good = x.good;
+      onto = λ fs r c. x.onto fs r (onto _ fs r (a _ _ x.there 0) c);
+      back = λ fs r c. back _ fs r (x.back fs r c);
+    }

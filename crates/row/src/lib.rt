@@ -47,7 +47,7 @@ pub struct Part {
     pub r: Record,
 }
 
-// The place after a field, and what is known then; place 0 if no row goes on with the field.
+// The place after a field, and what is known then.
 #[derive(Clone, Copy)]
 pub struct Step {
     pub at: usize,

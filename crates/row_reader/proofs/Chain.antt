@@ -8,13 +8,12 @@ use mathlib.Core.List.{List, []}
 use native.Mathlib.Decide.{ℕ_discrete}
 use native.Mathlib.Omega.{arith}
 use lib.ListN.{drop}
-use Rattle.fields.specs.declared.Scan.{Scan}
-use Rattle.fields.specs.inner.Window.{Lined, Skipped, Starts, Taken, EndAfter}
+use Rattle.fields.specs.inner.Window.{Lined, Skipped, Starts, EndAfter}
 use Rattle.fields.proofs.Parts.{only_none}
 use Rattle.record.specs.declared.Record.{Record}
 use Rattle.row.specs.declared.Stage.{Stage}
 use Rattle.row.specs.Row.{RowFields}
-use Rattle.row.specs.inner.Stages.{Steps, Continues}
+use Rattle.row.specs.inner.Stages.{Stepped, Stuck, Continues}
 use Rattle.row.proofs.Columns.{behind}
 use Rattle.row.proofs.Ending.{last, ends_at, left_early}
 use Rattle.row_reader.specs.inner.Answer.{RowFound}
@@ -57,23 +56,19 @@ module _ {w : List ℕ} {at a : ℕ} (k : EndAfter w at a) where
         go (some_left n z) = rw z (not_whole false refl (left_early (known x left place word out) x r.good n))
 
 -- A field: it steps the state, and the next gap goes on.
-pub further : {w : List ℕ} {at : ℕ} {P : ℕ → List ℕ → Type 0} {s : Scan} → Taken P w at s → s.end ≡ 0 → ⊥
-further t z = omega (arith, t.place, t.there.some)
-
-module _ {w : List ℕ} {at : ℕ} {C : List (List ℕ) → Record → Type 0} {x : Stage} {left place : ℕ} where
-  module _ {P : ℕ → List ℕ → Type 0} {s : Scan} (t : Taken P w at s) where
-    pub link : {r o : Record} {e : ℕ} → Steps w at C (behind s.end x left place r) → Goes (behind s.end x left place r).part w s.end o e
-        → Leads C w at o e
-    link d g line l = field_found d (further t) l g
+module _ {w : List ℕ} {at : ℕ} {C : List (List ℕ) → Record → Type 0} where
+  module _ {a left place : ℕ} {x : Stage} where
+    pub link : {r o : Record} {e : ℕ} → Stepped w at C (behind a x left place r) → Goes (behind a x left place r).part w a o e → Leads C w at o e
+    link d g line l = field_found d l g
 
     -- what the next gap asks
-    pub next : {word : ℕ} {out : Record} → Steps w at C (behind s.end x left place (seen out word)) → Starts w at
-        → Lined (drop s.end w) × Ready x left place word out
-    next d k = let o = onward d (further t) k in (o.lined, record { good = o.good })
+    pub next : {word : ℕ} {out : Record} → Stepped w at C (behind a x left place (seen out word)) → Starts w at
+        → Lined (drop a w) × Ready x left place word out
+    next d k = let o = onward d k in (o.lined, record { good = o.good })
 
   -- no row goes on with the field
-  pub stop : {r o : Record} → Steps w at C (behind 0 x left place r) → Starts w at → Leads C w at o 0
-  stop d k line l = field_none d refl k l
+  pub stop : {o : Record} → Stuck w at C → Starts w at → Leads C w at o 0
+  stop d k line l = field_none d k l
 
 -- A whole line: 0 is no place, and else the place is one less.
 pub no_row : {version k at e : ℕ} {line : List ℕ} {out : Record} → e ≡ 0 → Finds (λ fs r. RowFields version k r fs) at line out e

@@ -1,7 +1,7 @@
 -- A law for each column of the chain: `X_on`, the field is there and its value stands in the record; `X_off`, it is not; `X_none`, no row goes on
 -- with its value.
 use Prim.Native.Nat.{ℕ, ◌+◌, ◌*◌, ◌-◌, ◌/◌, ◌^◌, ◌≤◌, ◌<◌}
-use Rattle.std.specs.Prelude.{None}
+use Rattle.std.specs.Prelude.{Some, None}
 use mathlib.Core.Path.{◌≡◌, refl}
 use mathlib.Core.Logic.{◌≢◌}
 use mathlib.Core.Bool.{true, false}
@@ -19,7 +19,7 @@ use Rattle.row.specs.declared.Stage.TheVariants as stage
 use Rattle.row.specs.Versions.{Version, fraction_digits, has_bus}
 use Rattle.row.specs.Row
 use Rattle.row.specs.inner.Ids.{FormOf}
-use Rattle.row.specs.inner.Stages.{Steps, Continues, one_byte, no_byte}
+use Rattle.row.specs.inner.Stages.{Stepped, Stuck, Continues}
 use Rattle.row.proofs.Columns.{
   behind,
   after_number,
@@ -42,6 +42,7 @@ use Rattle.row.proofs.Columns.{
   length_went,
 }
 use Rattle.row.proofs.Data.{
+  one_byte,
   bytes_went,
   bytes_barred,
   warning_bytes_went,
@@ -77,17 +78,16 @@ use Rattle.row_reader.specs.inner.Chain.{none as None-found}
 
 -- The row number.
 module _ {w : List ℕ} {at k version : ℕ} (out : Record) where
-  pub number_off : Takes NumberField w at None
-      → Steps w at (λ fs r. Row.RowFields version k r fs) (behind 0 stage.TypeColumn 0 0 (seen out 0))
-  number_off t = refused _ t refl (λ f fs r h. (k, (after_number h).0))
+  pub number_off : Takes NumberField w at None → Stuck w at (λ fs r. Row.RowFields version k r fs)
+  number_off t = refused t (λ f fs r h. (k, (after_number h).0))
 
   module _ {s : Scan} (t : Taken NumberField w at s) where
-    pub number_none : s.value ≢ k → Steps w at (λ fs r. Row.RowFields version k r fs) (behind 0 stage.TypeColumn 0 0 (seen out 0))
-    number_none f = number_barred _ t refl f
+    pub number_none : s.value ≢ k → Stuck w at (λ fs r. Row.RowFields version k r fs)
+    number_none f = number_barred t f
 
     pub number_on : s.value ≡ k → Version version
-        → Steps w at (λ fs r. Row.RowFields version k r fs) (behind s.end (stage.Offset version) 0 0 (seen out 0))
-    number_on e v = number_went _ t refl e (v, refl) (λ fs r. refl)
+        → Stepped w at (λ fs r. Row.RowFields version k r fs) (behind s.end (stage.Offset version) 0 0 (seen out 0))
+    number_on e v = number_went t _ refl e (v, refl) (λ fs r. refl)
 
 -- A row is of some version.
 pub no_version : {v k : ℕ} (w : List ℕ) (at : ℕ) {out : Record} → (Version v → ⊥) → GoesRow v k w at out 0
@@ -99,213 +99,197 @@ no_version w at f line l = None-found refl (λ fs r ps c. f (version_of c))
 module _ {w : List ℕ} {at : ℕ} {out : Record} where
   -- The offset, with a bus behind it or none.
   module _ {v n : ℕ} (g : Ready (stage.Offset v) 0 0 0 out) (d : n ≡ fraction_digits v) where
-    pub offset_off : Takes (OffsetField n) w at None
-        → Steps w at (Continues (known (stage.Offset v) 0 0 0 out)) (behind 0 stage.TypeColumn 0 0 (seen out 0))
-    offset_off t = refused _ (rw d at t) refl (λ f fs r h. (r.offset, (after_offset h).0))
+    pub offset_off : Takes (OffsetField n) w at None → Stuck w at (Continues (known (stage.Offset v) 0 0 0 out))
+    offset_off t = refused (rw d at t) (λ f fs r h. (r.offset, (after_offset h).0))
 
     module _ {s : Scan} (t : Taken (OffsetField n) w at s) where
       pub offset_on : has_bus v ≡ false
-          → Steps w at (Continues (known (stage.Offset v) 0 0 0 out))
+          → Stepped w at (Continues (known (stage.Offset v) 0 0 0 out))
           (behind s.end stage.TypeColumn 0 0 (seen (record out { offset = s.value; bus = 0 }) 0))
       offset_on b = offset_went (known (stage.Offset v) 0 0 0 out) g.good.0 (rw d at t) b _ refl refl refl
 
       pub offset_bus_on : has_bus v ≡ true
-          → Steps w at (Continues (known (stage.Offset v) 0 0 0 out)) (behind s.end stage.Bus 0 0 (seen (record out { offset = s.value }) 0))
+          → Stepped w at (Continues (known (stage.Offset v) 0 0 0 out)) (behind s.end stage.Bus 0 0 (seen (record out { offset = s.value }) 0))
       offset_bus_on b = offset_bus_went (known (stage.Offset v) 0 0 0 out) g.good.0 (rw d at t) b _ refl refl
 
   -- The bus.
   module _ (g : Ready stage.Bus 0 0 0 out) where
-    pub bus_off : Takes BusField w at None → Steps w at (Continues (known stage.Bus 0 0 0 out)) (behind 0 stage.TypeColumn 0 0 (seen out 0))
-    bus_off t = refused _ t refl (λ f fs r h. (r.bus, (after_bus h.1).0))
+    pub bus_off : Takes BusField w at None → Stuck w at (Continues (known stage.Bus 0 0 0 out))
+    bus_off t = refused t (λ f fs r h. (r.bus, (after_bus h.1).0))
 
     pub bus_on : {s : Scan} → Taken BusField w at s
-        → Steps w at (Continues (known stage.Bus 0 0 0 out)) (behind s.end stage.TypeColumn 0 0 (seen (record out { bus = s.value }) 0))
+        → Stepped w at (Continues (known stage.Bus 0 0 0 out)) (behind s.end stage.TypeColumn 0 0 (seen (record out { bus = s.value }) 0))
     bus_on t = bus_went (known stage.Bus 0 0 0 out) _ refl refl refl t
 
   -- `Rx`, `Tx`, `Warng` or `Error`.
   module _ (g : Ready stage.TypeColumn 0 0 0 out) where
-    pub type_off : Takes TypeField w at None → Steps w at (Continues (known stage.TypeColumn 0 0 0 out)) (behind 0 stage.Id 0 0 (seen out 0))
-    type_off t = refused _ t refl (λ f fs r h. some_type h.1)
+    pub type_off : Takes TypeField w at None → Stuck w at (Continues (known stage.TypeColumn 0 0 0 out))
+    type_off t = refused t (λ f fs r h. some_type h.1)
 
     module _ {s : Scan} (t : Taken TypeField w at s) where
       pub frame_on : s.value ≤ 1
-          → Steps w at (Continues (known stage.TypeColumn 0 0 0 out)) (behind s.end stage.Id 0 0 (seen (record out { kind = s.value }) 0))
+          → Stepped w at (Continues (known stage.TypeColumn 0 0 0 out)) (behind s.end stage.Id 0 0 (seen (record out { kind = s.value }) 0))
       frame_on l = type_frame (known stage.TypeColumn 0 0 0 out) t _ l refl refl refl
 
       pub warning_on : s.value ≡ 2
-          → Steps w at (Continues (known stage.TypeColumn 0 0 0 out)) (behind s.end stage.WarningId 0 0 (seen out 0))
+          → Stepped w at (Continues (known stage.TypeColumn 0 0 0 out)) (behind s.end stage.WarningId 0 0 (seen out 0))
       warning_on e = type_warning (known stage.TypeColumn 0 0 0 out) t e refl
 
       pub error_on : 2 < s.value
-          → Steps w at (Continues (known stage.TypeColumn 0 0 0 out)) (behind s.end stage.ErrorId 0 0 (seen out 0))
+          → Stepped w at (Continues (known stage.TypeColumn 0 0 0 out)) (behind s.end stage.ErrorId 0 0 (seen out 0))
       error_on l = type_error (known stage.TypeColumn 0 0 0 out) t l refl
 
   -- The ID of a frame.
   module _ (g : Ready stage.Id 0 0 0 out) where
-    pub id_off : Takes HexField w at None → Steps w at (Continues (known stage.Id 0 0 0 out)) (behind 0 stage.Length 0 0 (seen out 0))
-    id_off t = refused _ t refl (λ f fs r h. some_id (after_id h.1).0)
+    pub id_off : Takes HexField w at None → Stuck w at (Continues (known stage.Id 0 0 0 out))
+    id_off t = refused t (λ f fs r h. some_id (after_id h.1).0)
 
     module _ {s : Scan} (t : Taken HexField w at s) where
-      pub id_none : Answers (FormOf s.value (s.end - at)) None
-          → Steps w at (Continues (known stage.Id 0 0 0 out)) (behind 0 stage.Length 0 0 (seen out 0))
-      id_none f = id_barred (known stage.Id 0 0 0 out) t _ refl f
+      pub id_none : Answers (FormOf s.value (s.end - at)) None → Stuck w at (Continues (known stage.Id 0 0 0 out))
+      id_none f = id_barred (known stage.Id 0 0 0 out) t f
 
       pub id_on : {x : ℕ} → FormOf s.value (s.end - at) x
-          → Steps w at (Continues (known stage.Id 0 0 0 out))
+          → Stepped w at (Continues (known stage.Id 0 0 0 out))
           (behind s.end stage.Length 0 0 (seen (record out { extended = x; id = s.value }) 0))
       id_on f = id_went (known stage.Id 0 0 0 out) t _ g.good.0 refl refl refl refl f
 
   -- The length of a frame.
   module _ (g : Ready stage.Length 0 0 0 out) where
-    pub length_off : Takes LengthField w at None → Steps w at (Continues (known stage.Length 0 0 0 out)) (behind 0 stage.Data 0 0 (seen out 0))
-    length_off t = refused _ t refl (λ f fs r h. (r.len, (after_length h.1).0))
+    pub length_off : Takes LengthField w at None → Stuck w at (Continues (known stage.Length 0 0 0 out))
+    length_off t = refused t (λ f fs r h. (r.len, (after_length h.1).0))
 
     pub length_on : {s : Scan} → Taken LengthField w at s
-        → Steps w at (Continues (known stage.Length 0 0 0 out))
+        → Stepped w at (Continues (known stage.Length 0 0 0 out))
         (behind s.end stage.Data s.value (256 ^ 7) (seen (record out { len = s.value }) 0))
     length_on t = length_went (known stage.Length 0 0 0 out) _ g.good.0 refl refl refl refl t
 
   -- The data of a frame: `RTR`, or the first byte.
   module _ {left : ℕ} (g : Ready stage.Data left (256 ^ 7) 0 out) where
     pub remote_on : {s : Scan} → Taken (λ v f. f ≡ remote_text) w at s
-        → Steps w at (Continues (known stage.Data left (256 ^ 7) 0 out)) (behind s.end stage.Bytes 0 0 (seen (record out { kind = out.kind + 2 }) 0))
+        → Stepped w at (Continues (known stage.Data left (256 ^ 7) 0 out)) (behind s.end stage.Bytes 0 0 (seen (record out { kind = out.kind + 2 }) 0))
     remote_on t = remote_went (known stage.Data left (256 ^ 7) 0 out) g.good _ refl refl refl t
 
     module _ (t : Takes (λ v f. f ≡ remote_text) w at None) where
-      pub data_none : left ≡ 0 → Steps w at (Continues (known stage.Data left (256 ^ 7) 0 out)) (behind 0 stage.Bytes 0 0 (seen out 0))
-      data_none n = data_barred (known stage.Data left (256 ^ 7) 0 out) g.good _ t n refl
+      pub data_none : left ≡ 0 → Stuck w at (Continues (known stage.Data left (256 ^ 7) 0 out))
+      data_none n = data_barred (known stage.Data left (256 ^ 7) 0 out) g.good t n
 
-      pub data_off : left ≢ 0 → Takes (Hex 2) w at None
-          → Steps w at (Continues (known stage.Data left (256 ^ 7) 0 out)) (behind 0 stage.Bytes 0 0 (seen out 0))
-      data_off n f = data_went (known stage.Data left (256 ^ 7) 0 out) g.good _ t n (no_byte refl f)
+      pub data_off : left ≢ 0 → Takes (Hex 2) w at None → Stuck w at (Continues (known stage.Data left (256 ^ 7) 0 out))
+      data_off n f = data_went w at (known stage.Data left (256 ^ 7) 0 out) None n g.good t f
 
       pub data_on : {b : Scan} → left ≢ 0 → Taken (Hex 2) w at b
-          → Steps w at (Continues (known stage.Data left (256 ^ 7) 0 out))
+          → Stepped w at (Continues (known stage.Data left (256 ^ 7) 0 out))
           (behind b.end stage.Bytes (left - 1) (256 ^ 6) (seen out (b.value * 256 ^ 7)))
-      data_on n b = data_went (known stage.Data left (256 ^ 7) 0 out) g.good _ t n (one_byte b.there b.place b.has (rw zero-add refl))
+      data_on n b = data_went w at (known stage.Data left (256 ^ 7) 0 out) (Some _) n g.good t (one_byte b refl (rw zero-add refl))
 
   -- A data byte, if one is left.
   module _ {left place word : ℕ} (g : Ready stage.Bytes left place word out) where
-    pub byte_none : left ≡ 0 → Steps w at (Continues (known stage.Bytes left place word out)) (behind 0 stage.Bytes 0 0 (seen out 0))
-    byte_none n = bytes_barred (known stage.Bytes left place word out) _ n refl
+    pub byte_none : left ≡ 0 → Stuck w at (Continues (known stage.Bytes left place word out))
+    byte_none n = bytes_barred (known stage.Bytes left place word out) n
 
-    pub byte_off : left ≢ 0 → Takes (Hex 2) w at None
-        → Steps w at (Continues (known stage.Bytes left place word out)) (behind 0 stage.Bytes 0 0 (seen out 0))
-    byte_off n f = bytes_went (known stage.Bytes left place word out) _ n g.good (no_byte refl f)
+    pub byte_off : left ≢ 0 → Takes (Hex 2) w at None → Stuck w at (Continues (known stage.Bytes left place word out))
+    byte_off n f = bytes_went w at (known stage.Bytes left place word out) None n g.good f
 
     pub byte_on : {s : Scan} → left ≢ 0 → Taken (Hex 2) w at s
-        → Steps w at (Continues (known stage.Bytes left place word out))
+        → Stepped w at (Continues (known stage.Bytes left place word out))
         (behind s.end stage.Bytes (left - 1) (place / 256) (seen out (word + s.value * place)))
-    byte_on n t = bytes_went (known stage.Bytes left place word out) _ n g.good (one_byte t.there t.place t.has refl)
+    byte_on n t = bytes_went w at (known stage.Bytes left place word out) (Some _) n g.good (one_byte t refl refl)
 
   -- The eight F of a warning.
   module _ (g : Ready stage.WarningId 0 0 0 out) where
-    pub warning_id_off : Takes HexField w at None
-        → Steps w at (Continues (known stage.WarningId 0 0 0 out)) (behind 0 stage.WarningLength 0 0 (seen out 0))
-    warning_id_off t = refused _ t refl (some_warning_id (known stage.WarningId 0 0 0 out))
+    pub warning_id_off : Takes HexField w at None → Stuck w at (Continues (known stage.WarningId 0 0 0 out))
+    warning_id_off t = refused t (some_warning_id (known stage.WarningId 0 0 0 out))
 
     module _ {s : Scan} (t : Taken HexField w at s) where
-      pub warning_id_none : (s.end - at ≡ 8 → s.value ≡ 0xFFFFFFFF → ⊥)
-          → Steps w at (Continues (known stage.WarningId 0 0 0 out)) (behind 0 stage.WarningLength 0 0 (seen out 0))
-      warning_id_none f = warning_id_barred (known stage.WarningId 0 0 0 out) _ refl f t
+      pub warning_id_none : (s.end - at ≡ 8 → s.value ≡ 0xFFFFFFFF → ⊥) → Stuck w at (Continues (known stage.WarningId 0 0 0 out))
+      warning_id_none f = warning_id_barred (known stage.WarningId 0 0 0 out) f t
 
       pub warning_id_on : s.end - at ≡ 8 → s.value ≡ 0xFFFFFFFF
-          → Steps w at (Continues (known stage.WarningId 0 0 0 out))
+          → Stepped w at (Continues (known stage.WarningId 0 0 0 out))
           (behind s.end stage.WarningLength 0 0 (seen (record out { kind = 4; extended = 0; id = 0; len = 4 }) 0))
       warning_id_on e v =
           warning_id_went (known stage.WarningId 0 0 0 out) _ refl refl (record { extended = refl; id = refl; len = refl }) refl e v t
 
   -- The length of a warning.
   module _ (g : Ready stage.WarningLength 0 0 0 out) where
-    pub warning_length_off : Takes LengthField w at None
-        → Steps w at (Continues (known stage.WarningLength 0 0 0 out)) (behind 0 stage.WarningBytes 0 0 (seen out 0))
-    warning_length_off t = refused _ t refl (λ f fs r h. (4, (after_warning_length h.1).0))
+    pub warning_length_off : Takes LengthField w at None → Stuck w at (Continues (known stage.WarningLength 0 0 0 out))
+    warning_length_off t = refused t (λ f fs r h. (4, (after_warning_length h.1).0))
 
     module _ {s : Scan} (t : Taken LengthField w at s) where
-      pub warning_length_none : s.value ≢ 4
-          → Steps w at (Continues (known stage.WarningLength 0 0 0 out)) (behind 0 stage.WarningBytes 0 0 (seen out 0))
-      warning_length_none f = warning_length_barred (known stage.WarningLength 0 0 0 out) _ refl f t
+      pub warning_length_none : s.value ≢ 4 → Stuck w at (Continues (known stage.WarningLength 0 0 0 out))
+      warning_length_none f = warning_length_barred (known stage.WarningLength 0 0 0 out) f t
 
       pub warning_length_on : s.value ≡ 4
-          → Steps w at (Continues (known stage.WarningLength 0 0 0 out)) (behind s.end stage.WarningBytes 4 (256 ^ 7) (seen out 0))
+          → Stepped w at (Continues (known stage.WarningLength 0 0 0 out)) (behind s.end stage.WarningBytes 4 (256 ^ 7) (seen out 0))
       warning_length_on e = warning_length_went (known stage.WarningLength 0 0 0 out) refl e t
 
   -- A data byte of a warning, and behind the last any word.
   module _ {left place word : ℕ} (g : Ready stage.WarningBytes left place word out) where
-    pub word_off : left ≡ 0 → Takes (λ v f. All Capital f) w at None
-        → Steps w at (Continues (known stage.WarningBytes left place word out)) (behind 0 stage.WarningBytes 0 0 (seen out 0))
-    word_off n t = word_refused (known stage.WarningBytes left place word out) n _ t refl
+    pub word_off : left ≡ 0 → Takes (λ v f. All Capital f) w at None → Stuck w at (Continues (known stage.WarningBytes left place word out))
+    word_off n t = word_refused (known stage.WarningBytes left place word out) n t
 
     pub word_on : {s : Scan} → left ≡ 0 → Taken (λ v f. All Capital f) w at s
-        → Steps w at (Continues (known stage.WarningBytes left place word out)) (behind s.end stage.WarningBytes 0 place (seen out word))
+        → Stepped w at (Continues (known stage.WarningBytes left place word out)) (behind s.end stage.WarningBytes 0 place (seen out word))
     word_on n t = word_went (known stage.WarningBytes left place word out) n g.good t
 
-    pub warning_byte_off : left ≢ 0 → Takes (Hex 2) w at None
-        → Steps w at (Continues (known stage.WarningBytes left place word out)) (behind 0 stage.WarningBytes 0 0 (seen out 0))
-    warning_byte_off n f = warning_bytes_went (known stage.WarningBytes left place word out) _ n g.good (no_byte refl f)
+    pub warning_byte_off : left ≢ 0 → Takes (Hex 2) w at None → Stuck w at (Continues (known stage.WarningBytes left place word out))
+    warning_byte_off n f = warning_bytes_went w at (known stage.WarningBytes left place word out) None n g.good f
 
     pub warning_byte_on : {s : Scan} → left ≢ 0 → Taken (Hex 2) w at s
-        → Steps w at (Continues (known stage.WarningBytes left place word out))
+        → Stepped w at (Continues (known stage.WarningBytes left place word out))
         (behind s.end stage.WarningBytes (left - 1) (place / 256) (seen out (word + s.value * place)))
-    warning_byte_on n t = warning_bytes_went (known stage.WarningBytes left place word out) _ n g.good (one_byte t.there t.place t.has refl)
+    warning_byte_on n t = warning_bytes_went w at (known stage.WarningBytes left place word out) (Some _) n g.good (one_byte t refl refl)
 
   -- The ID of an error frame.
   module _ (g : Ready stage.ErrorId 0 0 0 out) where
-    pub error_id_off : Takes HexField w at None
-        → Steps w at (Continues (known stage.ErrorId 0 0 0 out)) (behind 0 stage.ErrorLength 0 0 (seen out 0))
-    error_id_off t = refused _ t refl (some_error_id (known stage.ErrorId 0 0 0 out))
+    pub error_id_off : Takes HexField w at None → Stuck w at (Continues (known stage.ErrorId 0 0 0 out))
+    error_id_off t = refused t (some_error_id (known stage.ErrorId 0 0 0 out))
 
     module _ {s : Scan} (t : Taken HexField w at s) where
-      pub error_id_none : (s.end - at ≡ 4 → ErrorId s.value → ⊥)
-          → Steps w at (Continues (known stage.ErrorId 0 0 0 out)) (behind 0 stage.ErrorLength 0 0 (seen out 0))
-      error_id_none f = error_id_barred (known stage.ErrorId 0 0 0 out) _ refl f t
+      pub error_id_none : (s.end - at ≡ 4 → ErrorId s.value → ⊥) → Stuck w at (Continues (known stage.ErrorId 0 0 0 out))
+      error_id_none f = error_id_barred (known stage.ErrorId 0 0 0 out) f t
 
       pub error_id_on : s.end - at ≡ 4 → ErrorId s.value
-          → Steps w at (Continues (known stage.ErrorId 0 0 0 out))
+          → Stepped w at (Continues (known stage.ErrorId 0 0 0 out))
           (behind s.end stage.ErrorLength 0 0 (seen (record out { extended = 0; id = s.value }) 0))
       error_id_on e v = error_id_went (known stage.ErrorId 0 0 0 out) _ refl refl refl refl e v t
 
   -- The length of an error frame.
   module _ (g : Ready stage.ErrorLength 0 0 0 out) where
-    pub error_length_off : Takes LengthField w at None
-        → Steps w at (Continues (known stage.ErrorLength 0 0 0 out)) (behind 0 stage.ErrorFirst 0 0 (seen out 0))
-    error_length_off t = refused _ t refl (λ f fs r h. (4, (after_error_length h.2).1))
+    pub error_length_off : Takes LengthField w at None → Stuck w at (Continues (known stage.ErrorLength 0 0 0 out))
+    error_length_off t = refused t (λ f fs r h. (4, (after_error_length h.2).1))
 
     module _ {s : Scan} (t : Taken LengthField w at s) where
-      pub error_length_none : s.value ≢ 4
-          → Steps w at (Continues (known stage.ErrorLength 0 0 0 out)) (behind 0 stage.ErrorFirst 0 0 (seen out 0))
-      error_length_none f = error_length_barred (known stage.ErrorLength 0 0 0 out) _ refl f t
+      pub error_length_none : s.value ≢ 4 → Stuck w at (Continues (known stage.ErrorLength 0 0 0 out))
+      error_length_none f = error_length_barred (known stage.ErrorLength 0 0 0 out) f t
 
       pub error_length_on : s.value ≡ 4
-          → Steps w at (Continues (known stage.ErrorLength 0 0 0 out))
+          → Stepped w at (Continues (known stage.ErrorLength 0 0 0 out))
           (behind s.end stage.ErrorFirst 0 0 (seen (record out { kind = 5; len = 4 }) 0))
       error_length_on e = error_length_went (known stage.ErrorLength 0 0 0 out) _ refl refl refl refl e t
 
   -- The first byte of an error frame.
   module _ (g : Ready stage.ErrorFirst 0 0 0 out) where
-    pub first_off : Takes (Hex 2) w at None
-        → Steps w at (Continues (known stage.ErrorFirst 0 0 0 out)) (behind 0 stage.ErrorSecond 0 0 (seen out 0))
-    first_off t = refused _ t refl (λ f fs r h. let a = after_first h.1 in (a.0, a.2))
+    pub first_off : Takes (Hex 2) w at None → Stuck w at (Continues (known stage.ErrorFirst 0 0 0 out))
+    first_off t = refused t (λ f fs r h. let a = after_first h.1 in (a.0, a.2))
 
     module _ {s : Scan} (t : Taken (Hex 2) w at s) where
-      pub first_none : 1 < s.value → Steps w at (Continues (known stage.ErrorFirst 0 0 0 out)) (behind 0 stage.ErrorSecond 0 0 (seen out 0))
-      first_none l = error_first_barred (known stage.ErrorFirst 0 0 0 out) _ refl l t
+      pub first_none : 1 < s.value → Stuck w at (Continues (known stage.ErrorFirst 0 0 0 out))
+      first_none l = error_first_barred (known stage.ErrorFirst 0 0 0 out) l t
 
       pub first_on : s.value ≤ 1
-          → Steps w at (Continues (known stage.ErrorFirst 0 0 0 out)) (behind s.end stage.ErrorSecond 0 0 (seen out (s.value * 256 ^ 7)))
+          → Stepped w at (Continues (known stage.ErrorFirst 0 0 0 out)) (behind s.end stage.ErrorSecond 0 0 (seen out (s.value * 256 ^ 7)))
       first_on l = error_first_went (known stage.ErrorFirst 0 0 0 out) _ refl refl l t
 
   -- The second byte of an error frame: a position.
   module _ {word : ℕ} (g : Ready stage.ErrorSecond 0 0 word out) where
-    pub second_off : Takes (Hex 2) w at None
-        → Steps w at (Continues (known stage.ErrorSecond 0 0 word out)) (behind 0 stage.Bytes 0 0 (seen out 0))
-    second_off t = refused _ t refl (λ f fs r h. let a = after_second h.bytes in (a.0, a.2))
+    pub second_off : Takes (Hex 2) w at None → Stuck w at (Continues (known stage.ErrorSecond 0 0 word out))
+    second_off t = refused t (λ f fs r h. let a = after_second h.bytes in (a.0, a.2))
 
     module _ {s : Scan} (t : Taken (Hex 2) w at s) where
-      pub second_none : (Position s.value → ⊥) → Steps w at (Continues (known stage.ErrorSecond 0 0 word out)) (behind 0 stage.Bytes 0 0 (seen out 0))
-      second_none f = error_second_barred (known stage.ErrorSecond 0 0 word out) _ refl f t
+      pub second_none : (Position s.value → ⊥) → Stuck w at (Continues (known stage.ErrorSecond 0 0 word out))
+      second_none f = error_second_barred (known stage.ErrorSecond 0 0 word out) f t
 
       pub second_on : Position s.value
-          → Steps w at (Continues (known stage.ErrorSecond 0 0 word out))
+          → Stepped w at (Continues (known stage.ErrorSecond 0 0 word out))
           (behind s.end stage.Bytes 2 (256 ^ 5) (seen out (word + s.value * 256 ^ 6)))
       second_on p = error_second_went (known stage.ErrorSecond 0 0 word out) _ refl refl g.good p t

@@ -16,10 +16,8 @@ use Rattle.fields.proofs.Parts.{only_none}
 use Rattle.fields.proofs.Window.{field_one}
 use Rattle.record.specs.declared.Record.{Record}
 use Rattle.record.specs.Record.{record_of}
-use Rattle.row.specs.declared.Stage.TheVariants as stage
 use Rattle.row.specs.Row.{RowFields, Expected, this, any, Row}
-use Rattle.row.specs.inner.Stages.{Steps, stuck}
-use Rattle.row.proofs.Columns.{behind}
+use Rattle.row.specs.inner.Stages.{Stuck}
 use Rattle.row_reader.specs.inner.Answer.{NumberOf}
 use Rattle.row_reader.specs.inner.Chain.{Finds, found, Leads}
 use Rattle.row_reader.specs.inner.Chain.{none as None-found}
@@ -33,8 +31,8 @@ abbrev nobody : Record
 nobody = record_of []
 
 -- At the field whose number was read,
-another_stuck : {w : List ℕ} {at : ℕ} {s : Scan} → Taken NumberField w at s → Steps w at (Another s.value) (behind 0 stage.Bus 0 0 nobody)
-another_stuck {w} {at} t = stuck refl (λ g rest h fs r (f, gs, j, e, n, d). d (number_one (same h e n) t.has))
+another_stuck : {w : List ℕ} {at : ℕ} {s : Scan} → Taken NumberField w at s → Stuck w at (Another s.value)
+another_stuck {w} {at} t = record { none = λ g rest h fs r (f, gs, j, e, n, d). d (number_one (same h e n) t.has) }
   where
     same : {g rest f : List ℕ} {fs gs : List (List ℕ)} {j : ℕ} → FieldAt g rest (drop at w) → g ∷ fs ≡ f ∷ gs → NumberField j f
         → NumberField j t.field
@@ -43,8 +41,8 @@ another_stuck {w} {at} t = stuck refl (λ g rest h fs r (f, gs, j, e, n, d). d (
         rw (field_one h t.there).0 at (rw q at n)
 
 -- at one that is no number,
-none_stuck : {w : List ℕ} {at k : ℕ} → Takes NumberField w at None → Steps w at (Another k) (behind 0 stage.Bus 0 0 nobody)
-none_stuck {w} {at} u = stuck refl (λ g rest h fs r (f, gs, j, e, n, d). none h e n)
+none_stuck : {w : List ℕ} {at k : ℕ} → Takes NumberField w at None → Stuck w at (Another k)
+none_stuck {w} {at} u = record { none = λ g rest h fs r (f, gs, j, e, n, d). none h e n }
   where
     none : {g rest f : List ℕ} {fs gs : List (List ℕ)} {j : ℕ} → FieldAt g rest (drop at w) → g ∷ fs ≡ f ∷ gs → NumberField j f → ⊥
     none {g} {rest} {f} {j = j} h e n =

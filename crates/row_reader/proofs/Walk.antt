@@ -16,7 +16,7 @@ use Rattle.fields.proofs.Window.{inside, slice_drop, next_line}
 use Rattle.record.specs.declared.Record.{Record}
 use Rattle.row.specs.declared.Part.{Part}
 use Rattle.row.specs.declared.Step.{Step}
-use Rattle.row.specs.inner.Stages.{Steps, moved, stuck, EndsRow, whole, early, Continues, Good}
+use Rattle.row.specs.inner.Stages.{Stepped, Stuck, EndsRow, whole, early, Continues, Good}
 use Rattle.row_reader.specs.inner.Chain.{Finds, found}
 use Rattle.row_reader.specs.inner.Chain.{none as None-found}
 
@@ -146,29 +146,30 @@ first_field w at k l ps = go ps l (next_line w at l k.solid.end).1
         behind t over = halt (λ x. x.end refl)
         behind t (halt n) = halt (λ x. n x.blank)
 
-module _ {w : List ℕ} {at : ℕ} {C : List (List ℕ) → Record → Type 0} {t : Step} where
+module _ {w : List ℕ} {at : ℕ} {C : List (List ℕ) → Record → Type 0} where
   -- the field steps the state, and the rest of the line is read from there
-  pub field_found : {out : Record} {line : List ℕ} {e : ℕ} → Steps w at C t → (t.at ≡ 0 → ⊥) → LineBeforeCr line (drop at w)
+  pub field_found : {t : Step} {out : Record} {line : List ℕ} {e : ℕ} → Stepped w at C t → LineBeforeCr line (drop at w)
       → ((l : List ℕ) → LineBeforeCr l (drop t.at w) → Finds (Continues t.part) t.at l out e) → Finds C at line out e
-  field_found (stuck z _) n l k = absurd (n z)
-  field_found {out} {line} {e} (moved {f = f} a z g onto back) n l k =
+  field_found {t} {out} {line} {e} d l k =
+      let a = d.there in
       let x = peel (drop t.at w) (all_map solid_plain a.solid) (rw a.bytes at l) in
       go x.1 (parts_here x.2 a.stops) (k x.0 x.2)
     where
-      go : {l : List ℕ} → line ≡ f ++ l → Stops NoBlank l → Finds (Continues t.part) t.at l out e → Finds C at line out e
+      go : {l : List ℕ} → line ≡ d.field ++ l → Stops NoBlank l → Finds (Continues t.part) t.at l out e → Finds C at line out e
       go {l} q s (found ps c y) =
-          let m = ap length q ∙ length-append f l in
-          found (first a.some (all_map solid_dark a.solid) s ps q) (back _ _ c) (omega arith)
+          let a = d.there in
+          let z = d.place in
+          let m = ap length q ∙ length-append d.field l in
+          found (first a.some (all_map solid_dark a.solid) s ps q) (d.back _ _ c) (omega arith)
       go {l} q s (None-found y h) = None-found y (λ fs r ps c.
-          let u = first_only a.some (all_map solid_dark a.solid) s ps q in
-          h u.0 r u.2 (onto u.0 r (rw u.1 at c)))
+          let u = first_only d.there.some (all_map solid_dark d.there.solid) s ps q in
+          h u.0 r u.2 (d.onto u.0 r (rw u.1 at c)))
 
   -- no row goes on with the field
-  pub field_none : {out : Record} {line : List ℕ} → Steps w at C t → t.at ≡ 0 → Starts w at → LineBeforeCr line (drop at w) → Finds C at line out 0
-  field_none (moved a e g onto back) z k l = let h = a.some in absurd (omega arith)
-  field_none (stuck e f) z k l = None-found refl (λ fs r ps c.
+  pub field_none : {out : Record} {line : List ℕ} → Stuck w at C → Starts w at → LineBeforeCr line (drop at w) → Finds C at line out 0
+  field_none d k l = None-found refl (λ fs r ps c.
       let x = first_field w at k l ps in
-      f x.field x.rest x.there x.others r (rw x.first at c))
+      d.none x.field x.rest x.there x.others r (rw x.first at c))
 
 -- Where the line ends.
 pub end_found : (w : List ℕ) (a : ℕ) {C : List (List ℕ) → Record → Type 0} {out : Record} {line : List ℕ} {e : ℕ} → LineBeforeCr line (drop a w)
@@ -192,10 +193,10 @@ pub record Onward (w : List ℕ) (at : ℕ) (t : Step) : Type 0 where
   pub later : at < t.at
   pub inside : at < length w
 
-pub onward : {w : List ℕ} {at : ℕ} {C : List (List ℕ) → Record → Type 0} {t : Step} → Steps w at C t → (t.at ≡ 0 → ⊥) → Starts w at
-    → Onward w at t
-onward (stuck z f) n k = absurd (n z)
-onward {w} {at} {C} {t} (moved a e g on back) n k =
+pub onward : {w : List ℕ} {at : ℕ} {C : List (List ℕ) → Record → Type 0} {t : Step} → Stepped w at C t → Starts w at → Onward w at t
+onward {w} {at} {C} {t} d k =
+    let a = d.there in
+    let e = d.place in
     let l = k.lined.is in
     let x = peel (drop t.at w) (all_map solid_plain a.solid) (rw a.bytes at l) in
-    record { good = g; lined = record { line = x.0; is = x.2 }; later = let s = a.some in omega arith; inside = inside w at k.lined }
+    record { good = d.good; lined = record { line = x.0; is = x.2 }; later = let s = a.some in omega arith; inside = inside w at k.lined }

@@ -21,7 +21,7 @@ use row::{Part, Stage, Step};
 use warning::{warning_bytes, warning_id, warning_length};
 
 // One field after the row number, whatever the stage.
-pub fn take_field(w: &[u8; WINDOW], at: usize, hex: &HexDigits, p: Part) -> Step
+pub fn take_field(w: &[u8; WINDOW], at: usize, hex: &HexDigits, p: Part) -> Option<Step>
     requires { Starts w.now at × Good p }
     ensures { Steps w.now at (Continues p) result }
 {

@@ -25,10 +25,3 @@ pub fn bytes_left(at: usize, stage: Stage, left: u64, place: u64, r: Record) -> 
         },
     }
 }
-
-// No row goes on with this field.
-pub fn wrong(r: Record) -> Step
-    ensures { result.at ≡ 0 }
-{
-    known(0, Stage::TypeColumn, r)
-}

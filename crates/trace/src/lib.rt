@@ -1,10 +1,12 @@
 // A whole trace: read from text into packed records, in two passes. The first judges every line and counts, the second fills.
 #![tactic(auto)]
 
+pub mod window;
+
 ghost use Rattle.std.specs.Prelude.{◌≤◌, length};
 ghost use Rattle.trace.specs.Trace.{size_limit};
 ghost use Rattle.trace.specs.Promise.{read_numbers, ReadPromise};
-ghost use Rattle.trace.specs.inner.Passes.{Windowed, Reaches, RowAt, Says, Versioned, Headed, Heads, Judges, RecordsFit, Filled};
+ghost use Rattle.trace.specs.inner.Passes.{Reaches, RowAt, Says, Versioned, Headed, Heads, Judges, RecordsFit, Filled};
 
 use base::{Refusal, Refused};
 use digits::HexDigits;
@@ -13,15 +15,14 @@ use lines::{LINE_LIMIT, Remark};
 use record::{Record, put_record};
 use records::{back_after, mark_after};
 use row::head_lines;
-use row_reader::{expected_number, no_window, row_in, window};
+use row_reader::{expected_number, no_window, row_in};
+use window::{AsIs, fill_window, window_at};
 
 // The most bytes of a text.
 pub const SIZE_LIMIT: usize = 134_217_728;
 
 // How far from the start of a line its LF can stand, and the next line.
 const FEED: usize = LINE_LIMIT + 1;
-
-pub const ENDED: usize = LINE_LIMIT + 2;
 
 // What a trace is, beside its records: the first step back and the first number are 0 where there is none.
 #[derive(Clone, Copy, PartialEq, Eq)]
@@ -92,31 +93,6 @@ fn second(text: &[u8], at: usize, version: u64) -> Result<Heading, Refused>
     })
 }
 
-// Fills the window from a place of the text on: with what is left, or as much as there is room for, and CR behind it.
-fn fill_window(text: &[u8], from: usize, w: &mut [u8; WINDOW])
-    requires { from ≤ length text.now }
-    ensures { Windowed text.now from w.new }
-{
-    if text.len() - from < WINDOW {
-        window(&text[from..], w);
-        return;
-    }
-    window(&text[from..from + (WINDOW - 1)], w);
-}
-
-// Where the window starts that a row at a place is read from. Where fewer bytes are left in it than a line within the limit and its end have, it
-// is filled anew: so most rows are read where they are, and none is copied alone.
-fn window_at(text: &[u8], at: usize, from: usize, w: &mut [u8; WINDOW]) -> usize
-    requires { Windowed text.now from w.old × (from ≤ at) × (at ≤ length text.now) }
-    ensures { Reaches text.now at result w.new }
-{
-    if at - from <= WINDOW - 1 - ENDED {
-        return from;
-    }
-    fill_window(text, at, w);
-    at
-}
-
 // Reads row k of a version at a place, in the window that starts at `from`: the place of the next line, and the record in `out`; or
 // none. The line's end is not searched first: a row holds no CR and no LF, so that it ends where its reading ends.
 fn row_at(
@@ -182,11 +158,11 @@ fn judge(
     let mut w = no_window();
     let mut base = from;
     let mut record = Record::default();
-    fill_window(text, from, &mut w);
+    fill_window::<AsIs>(text, from, &mut w);
     // no `for`: the place moves by what was read
     while at < text.len() {
         place += 1;
-        base = window_at(text, at, base, &mut w);
+        base = window_at::<AsIs>(text, at, base, &mut w);
         let k = expected_number(&w, at - base, first + rows);
         match row_at(text, at, version, k, base, &w, hex, &mut record) {
             Some(next) => {
@@ -217,7 +193,7 @@ fn fill(text: &[u8], from: usize, version: u64, first: u64, hex: &HexDigits, out
     let mut w = no_window();
     let mut base = from;
     let mut record = Record::default();
-    fill_window(text, from, &mut w);
+    fill_window::<AsIs>(text, from, &mut w);
     // no `for`: the place moves by what was read
     while at < text.len() {
         if text[at] == b';' {
@@ -226,7 +202,7 @@ fn fill(text: &[u8], from: usize, version: u64, first: u64, hex: &HexDigits, out
             };
             at = next;
         } else {
-            base = window_at(text, at, base, &mut w);
+            base = window_at::<AsIs>(text, at, base, &mut w);
             let Some(next) = row_at(text, at, version, first + done, base, &w, hex, &mut record)
             else {
                 return 0;

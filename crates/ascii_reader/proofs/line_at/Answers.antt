@@ -1,7 +1,7 @@
 -- `ascii_reader::line_at` takes the line that was read in the window, if an end stands behind it.
 use native.Mathlib.Omega.{arith}
 use Rattle.trace.proofs.Rows.{lined}
-use Rattle.ascii_reader.proofs.Ends.{cr_all_length}
+use Rattle.ascii_reader.specs.inner.Ends.{cr_all_length}
 use Rattle.ascii_reader.proofs.Windows.{end_near, not_read, not_ended, line_here}
 use Rattle.ascii_reader.proofs.line_at.Goals as goal
 

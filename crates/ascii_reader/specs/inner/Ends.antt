@@ -1,5 +1,6 @@
 -- The ends of lines, and the window in which every line ends with CR. No public promise cites this file.
-use Rattle.std.specs.Prelude.{Option, Some, None, ℕ, ◌+◌, ◌≤◌, ◌≡◌, cond, List, [], ◌∷◌, eqb, length, drop}
+use Rattle.std.specs.Prelude.{Option, Some, None, ℕ, suc, ◌+◌, ◌≤◌, ◌≡◌, refl, cond, List, [], ◌∷◌, eqb, length, drop}
+use Rattle.std.proofs.Common.{ap}
 use Rattle.base.specs.Text.{cr, lf}
 use Rattle.lines.specs.Lines.{line_limit}
 
@@ -10,6 +11,12 @@ cr_for b = cond (eqb b lf) cr b
 unfoldable pub cr_for_all : List ℕ → List ℕ
 cr_for_all [] = []
 cr_for_all (b ∷ s) = cr_for b ∷ cr_for_all s
+
+-- It keeps the length, which `CrForLf` owes the window of trace.
+pub cr_all_length : (s : List ℕ) → length (cr_for_all s) ≡ length s
+unfolding cr_for_all
+cr_all_length [] = refl
+cr_all_length (b ∷ s) = ap suc (cr_all_length s)
 
 -- At e, within the limit from `at` on, stands the end of a line, and the next one at n.
 pub data EndHere (text : List ℕ) (at e n : ℕ) : Type 0 where

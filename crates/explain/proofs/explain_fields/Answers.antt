@@ -34,8 +34,8 @@ slice_bounds-step-start c = c.field_end-e.ensures.from
 pub slice_bounds-step-end : goal.slice_bounds-step-end
 slice_bounds-step-end c = c.field_end-e.ensures.within
 
-pub step-t-requires : goal.step-t-requires
-step-t-requires c =
+pub step-requires : goal.step-requires
+step-requires c =
     let h = c.field_end-e.ensures in
     (lent (blanks_ran c.run_end-a.ensures) c.if-a-line.false h c.requires.0, c.loop-p.invariant.good)
 
@@ -44,10 +44,10 @@ overflow_add-result c =
     let l = later (blanks_ran c.run_end-a.ensures) c.if-a-line.false c.field_end-e.ensures in
     omega (arith, c.loop-p.invariant.few, c.run_end-a.ensures.from, c.field_end-e.ensures.within)
 
-pub returns-then-t-eq0 : goal.returns-then-t-eq0
-returns-then-t-eq0 c =
-    let m = rw (part c.field_end-e.ensures) at c.step-t.ensures in
-    at_wrong c.loop-p.invariant c.run_end-a.ensures c.if-a-line.false c.field_end-e.ensures m c.if-t-eq0.true
+pub returns-in_default : goal.returns-in_default
+returns-in_default c =
+    let m = rw (part c.field_end-e.ensures) at c.in_default.ensures in
+    at_wrong c.loop-p.invariant c.run_end-a.ensures c.if-a-line.false c.field_end-e.ensures m
 
 pub overflow_add-i : goal.overflow_add-i
 overflow_add-i c =
@@ -61,7 +61,7 @@ loop-p-smaller c =
 
 pub loop-p-preserved : goal.loop-p-preserved
 loop-p-preserved c =
-    let m = rw (part c.field_end-e.ensures) at c.step-t.ensures in
+    let m = rw (part c.field_end-e.ensures) at c.in-Some.ensures in
     let l = later (blanks_ran c.run_end-a.ensures) c.if-a-line.false c.field_end-e.ensures in
-    one_more_field c.loop-p.invariant c.run_end-a.ensures c.if-a-line.false c.field_end-e.ensures m c.if-t-eq0.false
+    one_more_field c.loop-p.invariant c.run_end-a.ensures c.if-a-line.false c.field_end-e.ensures m
     (omega (arith, c.run_end-a.ensures.from, c.loop-p.invariant.few))

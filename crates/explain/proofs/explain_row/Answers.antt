@@ -3,7 +3,7 @@ use native.Mathlib.Omega.{arith}
 use lib.Seq.{length-slice}
 use Rattle.lines.proofs.Scans.{blanks_ran, part}
 use Rattle.explain.proofs.Fields.{later, lent, fields_none, fields_next, found_wrong, found_early}
-use Rattle.explain.proofs.Answers.{none_goes_on, moved_good, expected_can_end, no_row_empty, no_long_number}
+use Rattle.explain.proofs.Answers.{expected_can_end, no_row_empty, no_long_number}
 use Rattle.explain.proofs.explain_row.Goals as goal
 
 pub returns-then-a-line : goal.returns-then-a-line
@@ -34,32 +34,32 @@ slice_bounds-first-start c = c.field_end-e.ensures.from
 pub slice_bounds-first-end : goal.slice_bounds-first-end
 slice_bounds-first-end c = c.field_end-e.ensures.within
 
-pub first-t-requires : goal.first-t-requires
-first-t-requires c =
+pub first-requires : goal.first-requires
+first-requires c =
     let h = c.field_end-e.ensures in
     let l = length-slice c.run_end-a.result c.field_end-e.result c.args.line.now h.within in
     (lent (blanks_ran c.run_end-a.ensures) c.if-a-line.false h c.requires.0, rw (part h) (omega arith), c.requires.1)
 
-pub returns-then-t-eq0 : goal.returns-then-t-eq0
-returns-then-t-eq0 c =
+pub returns-in_default : goal.returns-in_default
+returns-in_default c =
     let n = fields_none c.args.version c.args.number c.args.line.now in
     let g = blanks_ran c.run_end-a.ensures in
     let h = c.field_end-e.ensures in
-    let m = rw (part h) at c.first-t.ensures in
-    found_wrong g c.if-a-line.false h n (expected_can_end c.args.number c.requires.1 c.requires.2) (none_goes_on m c.if-t-eq0.true)
+    let m = rw (part h) at c.in_default.ensures in
+    found_wrong g c.if-a-line.false h n (expected_can_end c.args.number c.requires.1 c.requires.2) m
 
 pub explain_fields-requires : goal.explain_fields-requires
 explain_fields-requires c =
     let g = blanks_ran c.run_end-a.ensures in
     let h = c.field_end-e.ensures in
-    let m = rw (part h) at c.first-t.ensures in
+    let m = rw (part h) at c.in-Some.ensures in
     let l = later g c.if-a-line.false h in
-    (c.requires.0, omega arith, h.within, moved_good m c.if-t-eq0.false)
+    (c.requires.0, omega arith, h.within, m.good)
 
 pub returns : goal.returns
 returns c =
     let n = fields_none c.args.version c.args.number c.args.line.now in
     let g = blanks_ran c.run_end-a.ensures in
     let h = c.field_end-e.ensures in
-    let m = rw (part h) at c.first-t.ensures in
-    c.explain_fields.ensures c.args.version c.args.number (fields_next g c.if-a-line.false h n m c.if-t-eq0.false)
+    let m = rw (part h) at c.in-Some.ensures in
+    c.explain_fields.ensures c.args.version c.args.number (fields_next g c.if-a-line.false h n m)

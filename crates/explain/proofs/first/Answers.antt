@@ -12,4 +12,4 @@ pub returns : goal.returns
 returns c =
     let f = c.requires.0 in
     let w = c.window.ensures in
-    expected_moves f (c.expected_number-k.ensures _ (line_here _ f w)) (moves _ f w c.take_number.ensures)
+    expected_moves f (c.expected_number-k.ensures _ (line_here _ f w)) _ _ (moves _ f w _ _ c.take_number.ensures)

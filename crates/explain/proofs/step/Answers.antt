@@ -1,6 +1,6 @@
 -- `explain::step` takes a field in a window of its own, and of a long word the first bytes.
 use Prim.Native.Nat.{◌≤◌}
-use mathlib.Core.Path.{refl, sym}
+use mathlib.Core.Path.{sym}
 use native.Mathlib.Omega.{arith}
 use lib.ListN.{length}
 use lib.Seq.{length-take-le}
@@ -12,10 +12,10 @@ pub take_field-requires : goal.take_field-requires
 take_field-requires c = (starts _ c.requires.0 c.window.ensures, c.requires.1)
 
 pub returns-then-f-le-LONGEST : goal.returns-then-f-le-LONGEST
-returns-then-f-le-LONGEST c = moves _ c.requires.0 c.window.ensures c.take_field.ensures
+returns-then-f-le-LONGEST c = moves _ c.requires.0 c.window.ensures _ _ c.take_field.ensures
 
 pub returns-then-run_end-f : goal.returns-then-run_end-f
-returns-then-run_end-f c = long_stuck c.args.p _ (omega arith) (no_word c.run_end.ensures c.if-run_end-f.true) refl
+returns-then-run_end-f c = long_stuck c.args.p (omega arith) (no_word c.run_end.ensures c.if-run_end-f.true)
 
 pub slice_bounds-window-end : goal.slice_bounds-window-end
 slice_bounds-window-end c =
@@ -36,4 +36,4 @@ pub returns : goal.returns
 returns c =
     let l : word_bytes ≤ length c.args.f.now = omega arith in
     long_moves c.args.p _ l (word c.run_end.ensures c.if-run_end-f.false)
-    (moves _ (front_field l c.requires.0) c.window-2.ensures c.take_field-2.ensures)
+    (moves _ (front_field l c.requires.0) c.window-2.ensures _ _ c.take_field-2.ensures)

@@ -1,9 +1,10 @@
 -- What the functions of the explainer promise each other. No public promise cites this file.
-use Rattle.std.specs.Prelude.{Result, Ok, Err, ℕ, ◌<◌, ◌≡◌, ◌≢◌, List, ◌∷◌, ◌++◌, length, drop}
+use Rattle.std.specs.Prelude.{Option, Some, None, Result, Ok, Err, ℕ, ◌<◌, ◌≡◌, List, ◌∷◌, ◌++◌, length, drop}
 use Rattle.record.specs.declared.Record.{Record}
 use Rattle.fields.specs.Parted.{Parted}
 use Rattle.fields.specs.Runs.{All}
 use Rattle.fields.specs.inner.Window.{Solid}
+use Rattle.row.specs.declared.Part.{Part}
 use Rattle.row.specs.declared.Step.{Step}
 use Rattle.row.specs.Row.{Expected, Row}
 use Rattle.row.specs.inner.Stages.{Continues, Good}
@@ -18,11 +19,16 @@ pub record Field (f : List ℕ) : Type 0 where
   pub some : 0 < length f
   pub solid : All Solid f
 
--- The field f, where C says which fields end in which record: t has the state after it; or no row goes on with it, and t has place 0.
-pub data Moves (C : List (List ℕ) → Record → Type 0) (f : List ℕ) (t : Step) : Type 0 where
-  moved : t.at ≢ 0 → Good t.part → ((fs : List (List ℕ)) (r : Record) → C (f ∷ fs) r → Continues t.part fs r)
-      → ((fs : List (List ℕ)) (r : Record) → Continues t.part fs r → C (f ∷ fs) r) → Moves C f t
-  stuck : t.at ≡ 0 → ((fs : List (List ℕ)) (r : Record) → C (f ∷ fs) r → ⊥) → Moves C f t
+-- The field f, where C says which fields end in which record: the rows that go on with it are those that go on from the state p.
+pub record Moved (C : List (List ℕ) → Record → Type 0) (f : List ℕ) (p : Part) : Type 0 where
+  pub good : Good p
+  pub onto : (fs : List (List ℕ)) (r : Record) → C (f ∷ fs) r → Continues p fs r
+  pub back : (fs : List (List ℕ)) (r : Record) → Continues p fs r → C (f ∷ fs) r
+
+-- The field f: rows go on with it, from the state of t; or none does.
+abbrev pub Moves : (List (List ℕ) → Record → Type 0) → List ℕ → Option Step → Type 0
+Moves C f (Some t) = Moved C f t.part
+Moves C f None = (fs : List (List ℕ)) (r : Record) → C (f ∷ fs) r → ⊥
 
 -- The first i fields of the line stand before the place `at`, and C says which others make a row of them.
 pub record FieldsBefore (version number : ℕ) (line : List ℕ) (C : List (List ℕ) → Record → Type 0) (at i : ℕ) : Type 0 where

@@ -1,5 +1,5 @@
 -- The stages of the row reader: what a state knows of the record, and what a field, or the end of the line, makes of it.
-use Rattle.std.specs.Prelude.{ℕ, ◌+◌, ◌*◌, ◌-◌, ◌/◌, ◌^◌, ◌≤◌, ◌≡◌, Bool, true, false, List, [], ◌∷◌, length, drop}
+use Rattle.std.specs.Prelude.{Option, Some, None, ℕ, ◌+◌, ◌*◌, ◌-◌, ◌/◌, ◌^◌, ◌≤◌, ◌≡◌, Bool, true, false, List, [], ◌∷◌, length, drop}
 use Rattle.digits.specs.Digits.{Hex}
 use Rattle.record.specs.declared.Record.{Record}
 use Rattle.row.specs.declared.Stage.{Stage}
@@ -103,19 +103,38 @@ good_at stage.ErrorSecond p = p.r.«data» ≤ 256 ^ 7
 abbrev pub Good : Part → Type 0
 Good p = good_at p.stage p
 
--- Reading one field at `at`, where C says which fields end in which record: either t goes on behind the field, or none goes on with it.
-pub data Steps (w : List ℕ) (at : ℕ) (C : List (List ℕ) → Record → Type 0) (t : Step) : Type 0 where
-  moved : {f : List ℕ} → FieldAt f (drop t.at w) (drop at w) → t.at ≡ at + length f → Good t.part
-      → ((fs : List (List ℕ)) (r : Record) → C (f ∷ fs) r → Continues t.part fs r)
-      → ((fs : List (List ℕ)) (r : Record) → Continues t.part fs r → C (f ∷ fs) r) → Steps w at C t
-  stuck : t.at ≡ 0
-      → ((f rest : List ℕ) → FieldAt f rest (drop at w) → (fs : List (List ℕ)) (r : Record) → C (f ∷ fs) r → ⊥) → Steps w at C t
+-- A field at `at`, where C says which fields end in which record: t is the place after it, and the rows that go on with it are those that go on from
+-- the state there.
+pub record Stepped (w : List ℕ) (at : ℕ) (C : List (List ℕ) → Record → Type 0) (t : Step) : Type 0 where
+  pub field : List ℕ
+  pub there : FieldAt field (drop t.at w) (drop at w)
+  pub place : t.at ≡ at + length field
+  pub good : Good t.part
+  pub onto : (fs : List (List ℕ)) (r : Record) → C (field ∷ fs) r → Continues t.part fs r
+  pub back : (fs : List (List ℕ)) (r : Record) → Continues t.part fs r → C (field ∷ fs) r
 
--- Reading one data byte at `at`: none stands there, or it is the next of p's bytes, and the stage is `next`.
-pub data Byted (w : List ℕ) (at : ℕ) (next : Stage) (p : Part) (t : Step) : Type 0 where
-  no_byte : t.at ≡ 0 → ((f rest : List ℕ) → FieldAt f rest (drop at w) → (v : ℕ) → Hex 2 v f → ⊥) → Byted w at next p t
-  one_byte : {f : List ℕ} {v : ℕ} → FieldAt f (drop t.at w) (drop at w) → t.at ≡ at + length f → Hex 2 v f
-      → t.part ≡ record { stage = next; left = p.left - 1; place = p.place / 256; r = plus p.r (v * p.place) } → Byted w at next p t
+-- No row goes on with the field there.
+pub record Stuck (w : List ℕ) (at : ℕ) (C : List (List ℕ) → Record → Type 0) : Type 0 where
+  pub none : (f rest : List ℕ) → FieldAt f rest (drop at w) → (fs : List (List ℕ)) (r : Record) → C (f ∷ fs) r → ⊥
+
+-- Reading one field at `at`: rows go on with it, as t says; or none does.
+abbrev pub Steps : List ℕ → ℕ → (List (List ℕ) → Record → Type 0) → Option Step → Type 0
+Steps w at C (Some t) = Stepped w at C t
+Steps w at C None = Stuck w at C
+
+-- A data byte at `at`: the next of p's bytes, and the stage after it is `next`.
+pub record OneByte (w : List ℕ) (at : ℕ) (next : Stage) (p : Part) (t : Step) : Type 0 where
+  pub field : List ℕ
+  pub value : ℕ
+  pub there : FieldAt field (drop t.at w) (drop at w)
+  pub place : t.at ≡ at + length field
+  pub has : Hex 2 value field
+  pub part : t.part ≡ record { stage = next; left = p.left - 1; place = p.place / 256; r = plus p.r (value * p.place) }
+
+-- Reading one data byte at `at`: it is the next of p's, or none stands there.
+abbrev pub Byted : List ℕ → ℕ → Stage → Part → Option Step → Type 0
+Byted w at next p (Some t) = OneByte w at next p t
+Byted w at next p None = (f rest : List ℕ) → FieldAt f rest (drop at w) → (v : ℕ) → Hex 2 v f → ⊥
 
 -- Where the line ends at stage x: the record is whole, or too little was read.
 pub data EndsRow (x : Stage) (p : Part) : Bool → Type 0 where

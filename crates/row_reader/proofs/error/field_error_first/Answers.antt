@@ -10,7 +10,7 @@ pub returns-then-s-gt1 : goal.returns-then-s-gt1
 returns-then-s-gt1 c = stop (first_none c.requires.1 c.in-Some.ensures c.if-s-gt1.true) c.requires.0
 
 pub gap_error_second-requires : goal.gap_error_second-requires
-gap_error_second-requires c = let t = c.in-Some.ensures in next t (first_on c.requires.1 t c.if-s-gt1.false) c.requires.0
+gap_error_second-requires c = let t = c.in-Some.ensures in next (first_on c.requires.1 t c.if-s-gt1.false) c.requires.0
 
 pub returns : goal.returns
-returns c = let t = c.in-Some.ensures in link t (first_on c.requires.1 t c.if-s-gt1.false) c.gap_error_second.ensures
+returns c = let t = c.in-Some.ensures in link (first_on c.requires.1 t c.if-s-gt1.false) c.gap_error_second.ensures

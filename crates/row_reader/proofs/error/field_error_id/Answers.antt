@@ -15,7 +15,7 @@ returns-then-s-at-ne4 c =
     ]
 
 pub gap_error_length-requires : goal.gap_error_length-requires
-gap_error_length-requires c = let t = c.in-Some.ensures in next t (error_id_on c.requires.1 t c.if-s-at-ne4.false c.if-not-error_id.ensures) c.requires.0
+gap_error_length-requires c = let t = c.in-Some.ensures in next (error_id_on c.requires.1 t c.if-s-at-ne4.false c.if-not-error_id.ensures) c.requires.0
 
 pub returns : goal.returns
-returns c = let t = c.in-Some.ensures in link t (error_id_on c.requires.1 t c.if-s-at-ne4.false c.if-not-error_id.ensures) c.gap_error_length.ensures
+returns c = let t = c.in-Some.ensures in link (error_id_on c.requires.1 t c.if-s-at-ne4.false c.if-not-error_id.ensures) c.gap_error_length.ensures

@@ -10,7 +10,7 @@ pub returns-then-s-ne4 : goal.returns-then-s-ne4
 returns-then-s-ne4 c = stop (error_length_none c.requires.1 c.in-Some.ensures c.if-s-ne4.true) c.requires.0
 
 pub gap_error_first-requires : goal.gap_error_first-requires
-gap_error_first-requires c = let t = c.in-Some.ensures in next t (error_length_on c.requires.1 t c.if-s-ne4.false) c.requires.0
+gap_error_first-requires c = let t = c.in-Some.ensures in next (error_length_on c.requires.1 t c.if-s-ne4.false) c.requires.0
 
 pub returns : goal.returns
-returns c = let t = c.in-Some.ensures in link t (error_length_on c.requires.1 t c.if-s-ne4.false) c.gap_error_first.ensures
+returns c = let t = c.in-Some.ensures in link (error_length_on c.requires.1 t c.if-s-ne4.false) c.gap_error_first.ensures

@@ -10,7 +10,7 @@ pub returns-then-not-position : goal.returns-then-not-position
 returns-then-not-position c = stop (second_none c.requires.1 c.in-Some.ensures c.if-not-position.ensures) c.requires.0
 
 pub gap_byte-requires : goal.gap_byte-requires
-gap_byte-requires c = let t = c.in-Some.ensures in next t (second_on c.requires.1 t c.if-not-position.ensures) c.requires.0
+gap_byte-requires c = let t = c.in-Some.ensures in next (second_on c.requires.1 t c.if-not-position.ensures) c.requires.0
 
 pub returns : goal.returns
-returns c = let t = c.in-Some.ensures in link t (second_on c.requires.1 t c.if-not-position.ensures) c.gap_byte.ensures
+returns c = let t = c.in-Some.ensures in link (second_on c.requires.1 t c.if-not-position.ensures) c.gap_byte.ensures

@@ -6,10 +6,10 @@ use Rattle.row_reader.proofs.Columns.{remote_on, data_none, data_off, data_on}
 use Rattle.row_reader.proofs.frame.field_data.Goals as goal
 
 pub gap_byte-requires : goal.gap_byte-requires
-gap_byte-requires c = let t = c.in-Some.ensures in next t (remote_on c.requires.1 t) c.requires.0
+gap_byte-requires c = let t = c.in-Some.ensures in next (remote_on c.requires.1 t) c.requires.0
 
 pub returns-in-Some : goal.returns-in-Some
-returns-in-Some c = let t = c.in-Some.ensures in link t (remote_on c.requires.1 t) c.gap_byte.ensures
+returns-in-Some c = let t = c.in-Some.ensures in link (remote_on c.requires.1 t) c.gap_byte.ensures
 
 pub returns-then-left-eq0 : goal.returns-then-left-eq0
 returns-then-left-eq0 c = stop (data_none c.requires.1 c.in_default.ensures c.if-left-eq0.true) c.requires.0
@@ -23,9 +23,9 @@ overflow_mul-b c = let b = hex_below c.in-Some-byte_field.ensures.has in omega a
 pub gap_byte-requires-2 : goal.gap_byte-requires-2
 gap_byte-requires-2 c =
     let t = c.in-Some-byte_field.ensures in
-    next t (data_on c.requires.1 c.in_default.ensures c.if-left-eq0.false t) c.requires.0
+    next (data_on c.requires.1 c.in_default.ensures c.if-left-eq0.false t) c.requires.0
 
 pub returns : goal.returns
 returns c =
     let t = c.in-Some-byte_field.ensures in
-    link t (data_on c.requires.1 c.in_default.ensures c.if-left-eq0.false t) c.gap_byte-2.ensures
+    link (data_on c.requires.1 c.in_default.ensures c.if-left-eq0.false t) c.gap_byte-2.ensures

@@ -10,7 +10,7 @@ pub returns-in_default-form : goal.returns-in_default-form
 returns-in_default-form c = stop (id_none c.requires.1 c.in-Some.ensures c.in_default-form.ensures) c.requires.0
 
 pub gap_length-requires : goal.gap_length-requires
-gap_length-requires c = let t = c.in-Some.ensures in next t (id_on c.requires.1 t c.in-Some-form.ensures) c.requires.0
+gap_length-requires c = let t = c.in-Some.ensures in next (id_on c.requires.1 t c.in-Some-form.ensures) c.requires.0
 
 pub returns : goal.returns
-returns c = let t = c.in-Some.ensures in link t (id_on c.requires.1 t c.in-Some-form.ensures) c.gap_length.ensures
+returns c = let t = c.in-Some.ensures in link (id_on c.requires.1 t c.in-Some-form.ensures) c.gap_length.ensures

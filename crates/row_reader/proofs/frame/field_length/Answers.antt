@@ -7,7 +7,7 @@ pub returns-in_default : goal.returns-in_default
 returns-in_default c = stop (length_off c.requires.1 c.in_default.ensures) c.requires.0
 
 pub gap_data-requires : goal.gap_data-requires
-gap_data-requires c = let t = c.in-Some.ensures in next t (length_on c.requires.1 t) c.requires.0
+gap_data-requires c = let t = c.in-Some.ensures in next (length_on c.requires.1 t) c.requires.0
 
 pub returns : goal.returns
-returns c = let t = c.in-Some.ensures in link t (length_on c.requires.1 t) c.gap_data.ensures
+returns c = let t = c.in-Some.ensures in link (length_on c.requires.1 t) c.gap_data.ensures

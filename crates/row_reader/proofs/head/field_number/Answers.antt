@@ -15,7 +15,7 @@ returns-then-s-k c =
     ]
 
 pub gap_offset-requires : goal.gap_offset-requires
-gap_offset-requires c = let t = c.in-Some.ensures in next t (number_on c.args.out.now t c.if-s-k.false c.if-not-is_version.ensures) c.requires
+gap_offset-requires c = let t = c.in-Some.ensures in next (number_on c.args.out.now t c.if-s-k.false c.if-not-is_version.ensures) c.requires
 
 pub returns : goal.returns
-returns c = let t = c.in-Some.ensures in link t (number_on c.args.out.now t c.if-s-k.false c.if-not-is_version.ensures) c.gap_offset.ensures
+returns c = let t = c.in-Some.ensures in link (number_on c.args.out.now t c.if-s-k.false c.if-not-is_version.ensures) c.gap_offset.ensures

@@ -10,19 +10,19 @@ returns-in_default c = stop (offset_off c.requires.1 c.fraction_digits.ensures c
 pub gap_bus-requires : goal.gap_bus-requires
 gap_bus-requires c =
     let t = c.in-Some.ensures in
-    next t (offset_bus_on c.requires.1 c.fraction_digits.ensures t (sym c.has_bus.ensures ∙ c.if-has_bus.true)) c.requires.0
+    next (offset_bus_on c.requires.1 c.fraction_digits.ensures t (sym c.has_bus.ensures ∙ c.if-has_bus.true)) c.requires.0
 
 pub returns-then-has_bus : goal.returns-then-has_bus
 returns-then-has_bus c =
     let t = c.in-Some.ensures in
-    link t (offset_bus_on c.requires.1 c.fraction_digits.ensures t (sym c.has_bus.ensures ∙ c.if-has_bus.true)) c.gap_bus.ensures
+    link (offset_bus_on c.requires.1 c.fraction_digits.ensures t (sym c.has_bus.ensures ∙ c.if-has_bus.true)) c.gap_bus.ensures
 
 pub gap_type-requires : goal.gap_type-requires
 gap_type-requires c =
     let t = c.in-Some.ensures in
-    next t (offset_on c.requires.1 c.fraction_digits.ensures t (sym c.has_bus.ensures ∙ c.if-has_bus.false)) c.requires.0
+    next (offset_on c.requires.1 c.fraction_digits.ensures t (sym c.has_bus.ensures ∙ c.if-has_bus.false)) c.requires.0
 
 pub returns : goal.returns
 returns c =
     let t = c.in-Some.ensures in
-    link t (offset_on c.requires.1 c.fraction_digits.ensures t (sym c.has_bus.ensures ∙ c.if-has_bus.false)) c.gap_type.ensures
+    link (offset_on c.requires.1 c.fraction_digits.ensures t (sym c.has_bus.ensures ∙ c.if-has_bus.false)) c.gap_type.ensures

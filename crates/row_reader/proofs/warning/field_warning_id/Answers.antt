@@ -15,7 +15,7 @@ returns-then-s-at-ne8 c =
     ]
 
 pub gap_warning_length-requires : goal.gap_warning_length-requires
-gap_warning_length-requires c = let t = c.in-Some.ensures in next t (warning_id_on c.requires.1 t c.if-s-at-ne8.false c.if-s-ne4294967295.false) c.requires.0
+gap_warning_length-requires c = let t = c.in-Some.ensures in next (warning_id_on c.requires.1 t c.if-s-at-ne8.false c.if-s-ne4294967295.false) c.requires.0
 
 pub returns : goal.returns
-returns c = let t = c.in-Some.ensures in link t (warning_id_on c.requires.1 t c.if-s-at-ne8.false c.if-s-ne4294967295.false) c.gap_warning_length.ensures
+returns c = let t = c.in-Some.ensures in link (warning_id_on c.requires.1 t c.if-s-at-ne8.false c.if-s-ne4294967295.false) c.gap_warning_length.ensures

@@ -10,7 +10,7 @@ pub returns-then-s-ne4 : goal.returns-then-s-ne4
 returns-then-s-ne4 c = stop (warning_length_none c.requires.1 c.in-Some.ensures c.if-s-ne4.true) c.requires.0
 
 pub gap_warning_byte-requires : goal.gap_warning_byte-requires
-gap_warning_byte-requires c = let t = c.in-Some.ensures in next t (warning_length_on c.requires.1 t c.if-s-ne4.false) c.requires.0
+gap_warning_byte-requires c = let t = c.in-Some.ensures in next (warning_length_on c.requires.1 t c.if-s-ne4.false) c.requires.0
 
 pub returns : goal.returns
-returns c = let t = c.in-Some.ensures in link t (warning_length_on c.requires.1 t c.if-s-ne4.false) c.gap_warning_byte.ensures
+returns c = let t = c.in-Some.ensures in link (warning_length_on c.requires.1 t c.if-s-ne4.false) c.gap_warning_byte.ensures

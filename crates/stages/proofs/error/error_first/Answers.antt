@@ -4,12 +4,12 @@ use Rattle.row.proofs.Moves.{refused}
 use Rattle.row.proofs.Warnings.{after_first, error_first_barred, error_first_went}
 use Rattle.stages.proofs.error.error_first.Goals as goal
 
-pub returns-in_default : goal.returns-in_default
-returns-in_default c = refused _ c.in_default.ensures c.wrong.ensures (λ f fs r h. let a = after_first h.1 in (a.0, a.2))
+pub returns-in_err-s : goal.returns-in_err-s
+returns-in_err-s c = rw c.from_residual.ensures (refused c.in_err-s.ensures (λ f fs r h. let a = after_first h.1 in (a.0, a.2)))
 
 pub returns-then-s-gt1 : goal.returns-then-s-gt1
 returns-then-s-gt1 c =
-    error_first_barred c.args.p _ c.wrong-then-s-gt1.ensures c.if-s-gt1.true c.in-Some.ensures
+    error_first_barred c.args.p c.if-s-gt1.true c.in_ok-s.ensures
 
 pub returns : goal.returns
-returns c = rw c.known.ensures (error_first_went c.args.p _ refl refl c.if-s-gt1.false c.in-Some.ensures)
+returns c = rw c.known.ensures (error_first_went c.args.p _ refl refl c.if-s-gt1.false c.in_ok-s.ensures)

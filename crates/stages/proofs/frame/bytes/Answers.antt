@@ -2,8 +2,8 @@
 use Rattle.row.proofs.Data.{bytes_barred, bytes_went}
 use Rattle.stages.proofs.frame.bytes.Goals as goal
 
-pub returns-then-left-eq0 : goal.returns-then-left-eq0
-returns-then-left-eq0 c = bytes_barred c.args.p _ c.if-left-eq0.true c.wrong.ensures
+pub returns-then-p-eq0 : goal.returns-then-p-eq0
+returns-then-p-eq0 c = bytes_barred c.args.p c.if-p-eq0.true
 
 pub returns : goal.returns
-returns c = bytes_went c.args.p _ c.if-left-eq0.false c.requires.1 c.byte.ensures
+returns c = bytes_went _ _ c.args.p _ c.if-p-eq0.false c.requires.1 c.byte.ensures

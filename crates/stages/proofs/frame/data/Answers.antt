@@ -6,8 +6,8 @@ use Rattle.stages.proofs.frame.data.Goals as goal
 pub returns-in-Some : goal.returns-in-Some
 returns-in-Some c = rw c.known.ensures (remote_went c.args.p c.requires.1 _ refl refl c.requires.1.1 c.in-Some.ensures)
 
-pub returns-then-left-eq0 : goal.returns-then-left-eq0
-returns-then-left-eq0 c = data_barred c.args.p c.requires.1 _ c.in_default.ensures c.if-left-eq0.true c.wrong.ensures
+pub returns-then-p-eq0 : goal.returns-then-p-eq0
+returns-then-p-eq0 c = data_barred c.args.p c.requires.1 c.in_default.ensures c.if-p-eq0.true
 
 pub returns : goal.returns
-returns c = data_went c.args.p c.requires.1 _ c.in_default.ensures c.if-left-eq0.false c.byte.ensures
+returns c = data_went _ _ c.args.p _ c.if-p-eq0.false c.requires.1 c.in_default.ensures c.byte.ensures

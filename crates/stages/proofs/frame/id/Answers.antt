@@ -4,13 +4,13 @@ use Rattle.row.proofs.Moves.{refused}
 use Rattle.row.proofs.Columns.{after_id, some_id, id_barred, id_went}
 use Rattle.stages.proofs.frame.id.Goals as goal
 
-pub returns-in_default : goal.returns-in_default
-returns-in_default c = refused _ c.in_default.ensures c.wrong.ensures (λ f fs r h. some_id (after_id h.1).0)
+pub returns-in_err-s : goal.returns-in_err-s
+returns-in_err-s c = rw c.from_residual.ensures (refused c.in_err-s.ensures (λ f fs r h. some_id (after_id h.1).0))
 
-pub returns-in_default-form : goal.returns-in_default-form
-returns-in_default-form c = id_barred c.args.p c.in-Some.ensures _ c.wrong-in_default-form.ensures c.in_default-form.ensures
+pub returns-in_err-r : goal.returns-in_err-r
+returns-in_err-r c = rw c.from_residual-in_err-r.ensures (id_barred c.args.p c.in_ok-s.ensures c.in_err-r.ensures)
 
 pub returns : goal.returns
 returns c =
     rw c.known.ensures
-    (id_went c.args.p c.in-Some.ensures _ c.requires.1.0 refl refl refl c.requires.1.1 c.in-Some-form.ensures)
+    (id_went c.args.p c.in_ok-s.ensures _ c.requires.1.0 refl refl refl c.requires.1.1 c.in_ok-r.ensures)

@@ -4,8 +4,8 @@ use Rattle.row.proofs.Moves.{refused}
 use Rattle.row.proofs.Columns.{after_bus, bus_went}
 use Rattle.stages.proofs.head.bus.Goals as goal
 
-pub returns-in_default : goal.returns-in_default
-returns-in_default c = refused _ c.in_default.ensures c.wrong.ensures (λ f fs r h. (r.bus, (after_bus h.1).0))
+pub returns-in_err-s : goal.returns-in_err-s
+returns-in_err-s c = rw c.from_residual.ensures (refused c.in_err-s.ensures (λ f fs r h. (r.bus, (after_bus h.1).0)))
 
 pub returns : goal.returns
-returns c = rw c.known.ensures (bus_went c.args.p _ refl refl c.requires.1 c.in-Some.ensures)
+returns c = rw c.known.ensures (bus_went c.args.p _ refl refl c.requires.1 c.in_ok-s.ensures)

@@ -1,4 +1,4 @@
--- `ascii_reader::window::copy_lines` keeps: the bytes passed stand at the front, CR for LF.
+-- `ascii_reader::window::CrForLfCopying::copy` keeps: the bytes passed stand at the front, CR for LF.
 use mathlib.Core.Path.{◌≡◌, refl, sym}
 use native.Mathlib.Omega.{arith}
 use borrow.Author.Rules.{rules}
@@ -6,7 +6,7 @@ use lib.ListN.{take, drop}
 use Rattle.row_reader.proofs.Whole.{one_more, closed}
 use Rattle.ascii_reader.specs.inner.Ends.{cr_for_all}
 use Rattle.ascii_reader.proofs.Windows.{held_byte, held_length}
-use Rattle.ascii_reader.proofs.window.copy_lines.Goals as goal
+use Rattle.ascii_reader.proofs.window.CrForLfCopying.copy.Goals as goal
 
 pub loop-i-init : goal.loop-i-init
 loop-i-init c = let a = c.args in let l = held_length a.text.now a.from a.n c.requires.0 in (record { within = omega arith; size = sym l; room = rw l (search rules); bytes = refl }, c.requires.0)

@@ -1,6 +1,0 @@
--- `trace::window_at` keeps the window that reaches far enough, or fills it from the row on. Told by `omega`, so that a window too short is refused with values.
-use native.Mathlib.Omega.{arith}
-use Rattle.trace.proofs.window_at.Goals as goal
-
-pub returns-then-at-from : goal.returns-then-at-from
-returns-then-at-from c = record { windowed = c.requires.0; starts = c.requires.1; room = omega arith }
