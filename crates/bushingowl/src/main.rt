@@ -1,7 +1,9 @@
 // The bench program: one trace from standard input, its ASCII export or its refusal to standard output.
 #![tactic(auto)]
 
-ghost use Rattle.std.specs.Prelude.{◌≤◌, ◌<◌, ◌≡◌, length, take};
+ghost use Rattle.std.specs.Prelude.{◌≤◌, ◌<◌, ◌≡◌, length, take, IfOk};
+ghost use Rattle.std.specs.Io.{ReadsAtMost};
+ghost use Rattle.std.specs.Io.KnownBytes.{Consumes, IsAtEnd};
 ghost use Rattle.convert.specs.Promise.{input_limit, records_room, page_room, Prints};
 
 use convert::{INPUT_LIMIT, convert, taken};
@@ -32,6 +34,17 @@ fn page_space() -> [u8; PAGE]
     ensures { page_room ≡ length result }
 {
     [0; PAGE]
+}
+
+// Takes a reader into a space with room for more than an input may have: so what fills the space is too long, and no first part of it is
+// taken for a whole trace.
+fn input_taken<R: Read>(from: &mut R, space: &mut [u8]) -> io::Result<usize>
+    requires { input_limit < length space.old }
+    ensures bound { ReadsAtMost result space.new }
+    ensures bytes { IfOk result (λ n. Consumes (R.remaining from.old) (R.remaining from.new) (take n space.new)) }
+    ensures whole { IfOk result (λ n. n < length space.new → IsAtEnd (R.remaining from.new)) }
+{
+    taken(from, space)
 }
 
 // Puts what is to be printed for an input at the start of the page, which has room for it, and gives its length.
@@ -66,7 +79,7 @@ fn main(rt: HostRuntime) -> io::Result<()> {
     let mut records = records_space();
     let mut page = page_space();
     let mut stdin = rt.stdin();
-    let Ok(got) = taken(&mut stdin, &mut input) else {
+    let Ok(got) = input_taken(&mut stdin, &mut input) else {
         return unread(&rt);
     };
     if failed(&mut stdin) {
