@@ -16,7 +16,7 @@ ghost use Rattle.std.specs.Prelude.{◌≡◌, ◌≤◌, ◌<◌, length};
 
 use convert::taken;
 use std::io;
-use testing::{before, behind, byte, fill, front, shown, text, value};
+use testing::{before, behind, byte, fill, front, key, shown, text, value};
 
 // Room for a case with two fields that are longer than a window.
 fn line_space() -> [u8; 10000]
@@ -62,22 +62,20 @@ fn of_texts(rt: &impl Print, word: &[u8], line: &[u8]) -> io::Result<bool> {
     )
 }
 
-// A word without the NULs before it, which don't count in one of at most eight bytes.
-fn without_nuls(word: &[u8]) -> &[u8] {
-    if 8 < word.len() {
-        return word;
-    }
-    for i in 0..word.len() {
-        if word[i] != 0 {
-            return &word[i..];
+// A word's letters without the NULs before them, which are none of it.
+fn without_nuls(letters: &[u8; 8]) -> &[u8] {
+    for i in 0..letters.len() {
+        if letters[i] != 0 {
+            return &letters[i..];
         }
     }
-    word
+    letters
 }
 
 // One case. Its first word says what is tried.
 fn tried(rt: &impl Print, line: &[u8]) -> io::Result<()> {
-    let word = without_nuls(before(before(line, b' '), b':'));
+    let letters = key(before(before(line, b' '), b':')).to_be_bytes();
+    let word = without_nuls(&letters);
     if of_texts(rt, word, line)? || of_records(rt, word, line)? || of_numbers(rt, word, line)? {
         return Ok(());
     }
