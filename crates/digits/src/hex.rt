@@ -3,6 +3,7 @@ ghost use Rattle.std.specs.Prelude.{◌≡◌};
 ghost use Rattle.digits.specs.declared.hex.TheConstants.{HEX_DIGITS};
 ghost use Rattle.base.specs.inner.Answers.{Answers};
 ghost use Rattle.digits.specs.Digits.{HexDigit};
+ghost use Rattle.digits.specs.inner.HexTable.{HexTable};
 
 // For each byte value the hexadecimal digit that it is, of either letter case, or 255. A row has the sixteen bytes from a multiple of sixteen on.
 #[rattlefmt::skip]
@@ -33,7 +34,9 @@ pub struct HexDigits {
 }
 
 impl HexDigits {
-    pub fn new() -> Self {
+    pub fn new() -> Self
+        ensures { HexTable result.table }
+    {
         HexDigits { table: HEX_DIGITS }
     }
 

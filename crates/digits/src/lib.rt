@@ -15,7 +15,7 @@ ghost use Rattle.digits.specs.House.{glyph_of, padded_text, hex_text, decimal_te
 use base::wide;
 pub use hex::HexDigits;
 pub use kept::Kept;
-pub use pairs::Pairs;
+pub use pairs::{Pairs, put_pairs};
 
 // The case of the letters for the hexadecimal digits from ten on.
 #[derive(Clone, Copy)]

@@ -16,6 +16,7 @@ use record::{Record, put_record};
 use records::{back_after, mark_after};
 use row::head_lines;
 use row_reader::{expected_number, no_window, row_in};
+pub use window::ENDED;
 use window::{AsIs, fill_window, window_at};
 
 // The most bytes of a text.

@@ -8,7 +8,7 @@ use fields::WINDOW;
 use lines::LINE_LIMIT;
 
 // The most bytes of a line within the limit and its end.
-const ENDED: usize = LINE_LIMIT + 2;
+pub const ENDED: usize = LINE_LIMIT + 2;
 
 // How a window has the bytes of a text: each in its place, as it is or as another. An impl copies a whole stretch and not byte by byte, so that bytes as
 // they are stay one move of memory.

@@ -1,6 +1,0 @@
--- `Pairs::put_pair` puts what the table has for the byte.
-use Rattle.digits.proofs.ByteTexts.{paired}
-use Rattle.digits.proofs.pairs.Pairs.put_pair.Goals as goal
-
-pub returns-clause-wrote : goal.returns-clause-wrote
-returns-clause-wrote c = rw (paired c.args.b c.requires.0 c.args.self.now.pairs) c.put_three.ensures
