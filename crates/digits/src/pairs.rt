@@ -25,20 +25,6 @@ fn no_pairs() -> [u8; 512]
     [0; 512]
 }
 
-// The two digits of each byte, one pair after the other. A call of its own, which puts them where they stay: inlined, it would put them elsewhere
-// on the stack first.
-#[inline(never)]
-fn table_of(letters: Letters) -> [u8; 512]
-    ensures { PairsOf letters result }
-{
-    let mut table = no_pairs();
-    for i in 0..256 {
-        table[2 * i] = glyph(letters, (i / 16) as u8);
-        table[2 * i + 1] = glyph(letters, (i % 16) as u8);
-    }
-    table
-}
-
 // One byte after one blank: the calls of `put_hex` for each digit would double the time that a row takes.
 fn put_pair(out: &mut [u8], at: usize, b: u64, table: &[u8; 512]) -> usize
     requires { (b < 256) × (at + 3 ≤ length out.old) }
@@ -66,10 +52,16 @@ impl Pairs {
     pub fn new(letters: Letters) -> Self
         ensures { result.letters ≡ letters }
     {
-        Pairs {
+        // filled where it stays: a table that is filled first would be copied into the struct
+        let mut pairs = Pairs {
             letters,
-            table: table_of(letters),
+            table: no_pairs(),
+        };
+        for i in 0..256 {
+            pairs.table[2 * i] = glyph(letters, (i / 16) as u8);
+            pairs.table[2 * i + 1] = glyph(letters, (i % 16) as u8);
         }
+        pairs
     }
 
     // The first n of the eight bytes of a word, each after one blank.

@@ -114,7 +114,7 @@ fn measure_rows(version: u64, first: u64, records: &[u8]) -> Result<usize, Refus
 }
 
 // The second pass: the rows are put behind `from`, where there is room, the first with the number `first`. No record is judged any more. The digits
-// of the row number over ten are kept in `tens` from row to row, and those of the offset's whole seconds in `seconds`: `last` is their number.
+// of the row number over ten are kept in `tens` from row to row, and those of the offset's whole seconds in `seconds`.
 fn put_rows(version: u64, first: u64, records: &[u8], out: &mut [u8], from: usize)
     requires { RowsFit version first records.now out.old from }
     ensures { RowsPut version first records.now out.old out.new from }
