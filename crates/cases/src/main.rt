@@ -62,7 +62,7 @@ fn of_texts(rt: &impl Print, word: &[u8], line: &[u8]) -> io::Result<bool> {
     )
 }
 
-// A word's letters without the NULs before them, which are none of it.
+// The letters of a word, without the NULs that stand before them in its key.
 fn without_nuls(letters: &[u8; 8]) -> &[u8] {
     for i in 0..letters.len() {
         if letters[i] != 0 {
